@@ -1,0 +1,5 @@
+pub mod Absolute
+pub mod Divisors
+pub mod Integers
+pub mod Rows
+pub mod Sums

@@ -1,0 +1,3 @@
+pub mod Divisors
+pub mod Sums
+pub mod Weights

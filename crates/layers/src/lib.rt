@@ -1,0 +1,5 @@
+// Layers: rules made of any rule below, and piles of layers.
+mod fill;
+mod layer;
+
+pub use layer::Layer;

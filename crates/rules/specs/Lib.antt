@@ -1,0 +1,4 @@
+pub mod BuiltIn
+pub mod Faults
+pub mod Meaning
+pub mod Tables

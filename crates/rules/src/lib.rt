@@ -1,0 +1,13 @@
+// Integration rules with whole-number weights: what a rule is and promises, the rules that are built in, and the table that a layered rule is.
+mod built_in;
+mod fault;
+mod rule;
+mod table;
+
+pub use built_in::BuiltIn;
+pub use fault::Cause;
+pub use fault::Fault;
+pub use fault::Origin;
+pub use rule::Rule;
+pub use table::Table;
+pub use table::TableRule;
