@@ -35,18 +35,18 @@ pub sum-add : (n : ℕ) (f g : ℕ → ℤ) → sum n (λ s. f s +ℤ g s) ≡ s
 sum-add zero f g = sum-none (λ s. f s +ℤ g s) ∙ sym (ap₂ _+ℤ_ (sum-none f) (sum-none g))
 sum-add (suc n) f g =
     sum-more n (λ s. f s +ℤ g s)
-        ∙ ap (λ t. t +ℤ (f n +ℤ g n)) (sum-add n f g)
-        ∙ +ℤ-exchange (sum n f) (sum n g) (f n) (g n)
-        ∙ sym (ap₂ _+ℤ_ (sum-more n f) (sum-more n g))
+    ∙ ap (λ t. t +ℤ (f n +ℤ g n)) (sum-add n f g)
+    ∙ +ℤ-exchange (sum n f) (sum n g) (f n) (g n)
+    ∙ sym (ap₂ _+ℤ_ (sum-more n f) (sum-more n g))
 
 -- a factor moves into a sum
 pub sum-scale : (c : ℤ) (n : ℕ) (f : ℕ → ℤ) → c *ℤ sum n f ≡ sum n (λ s. c *ℤ f s)
 sum-scale c zero f = ap (λ t. c *ℤ t) (sum-none f) ∙ *ℤ-zero c ∙ sym (sum-none (λ s. c *ℤ f s))
 sum-scale c (suc n) f =
     ap (λ t. c *ℤ t) (sum-more n f)
-        ∙ *ℤ-distl c (sum n f) (f n)
-        ∙ ap (λ t. t +ℤ (c *ℤ f n)) (sum-scale c n f)
-        ∙ sym (sum-more n (λ s. c *ℤ f s))
+    ∙ *ℤ-distl c (sum n f) (f n)
+    ∙ ap (λ t. t +ℤ (c *ℤ f n)) (sum-scale c n f)
+    ∙ sym (sum-more n (λ s. c *ℤ f s))
 
 -- a sum in two parts
 pub sum-split : (m n : ℕ) (f : ℕ → ℤ) → sum (m + n) f ≡ sum m f +ℤ sum n (λ s. f (m + s))
@@ -54,45 +54,45 @@ sum-split m zero f =
     ap (λ t. sum t f) (add-zero m) ∙ sym (ap (λ t. sum m f +ℤ t) (sum-none (λ s. f (m + s))) ∙ +ℤ-idr (sum m f))
 sum-split m (suc n) f =
     ap (λ t. sum t f) (add-suc m n)
-        ∙ sum-more (m + n) f
-        ∙ ap (λ t. t +ℤ f (m + n)) (sum-split m n f)
-        ∙ +ℤ-assoc (sum m f) (sum n (λ s. f (m + s))) (f (m + n))
-        ∙ ap (λ t. sum m f +ℤ t) (sym (sum-more n (λ s. f (m + s))))
+    ∙ sum-more (m + n) f
+    ∙ ap (λ t. t +ℤ f (m + n)) (sum-split m n f)
+    ∙ +ℤ-assoc (sum m f) (sum n (λ s. f (m + s))) (f (m + n))
+    ∙ ap (λ t. sum m f +ℤ t) (sym (sum-more n (λ s. f (m + s))))
 
 -- terms that are 0 from n up add nothing
 pub sum-beyond : (n m : ℕ) (f : ℕ → ℤ) → ((s : ℕ) → n ≤ s → f s ≡ pos 0) → sum (n + m) f ≡ sum n f
 sum-beyond n m f e =
     sum-split n m f
-        ∙ ap (λ t. sum n f +ℤ t) (sum-zero m (λ s. f (n + s)) (λ s h. e (n + s) (omega arith)))
-        ∙ +ℤ-idr (sum n f)
+    ∙ ap (λ t. sum n f +ℤ t) (sum-zero m (λ s. f (n + s)) (λ s h. e (n + s) (omega arith)))
+    ∙ +ℤ-idr (sum n f)
 
 -- the first term apart
 pub sum-first : (n : ℕ) (f : ℕ → ℤ) → sum (suc n) f ≡ f 0 +ℤ sum n (λ s. f (suc s))
 sum-first zero f = sum-more 0 f ∙ ap (λ t. t +ℤ f 0) (sum-none f) ∙ +ℤ-idl (f 0) ∙ sym (ap (λ t. f 0 +ℤ t) (sum-none (λ s. f (suc s))) ∙ +ℤ-idr (f 0))
 sum-first (suc n) f =
     sum-more (suc n) f
-        ∙ ap (λ t. t +ℤ f (suc n)) (sum-first n f)
-        ∙ +ℤ-assoc (f 0) (sum n (λ s. f (suc s))) (f (suc n))
-        ∙ ap (λ t. f 0 +ℤ t) (sym (sum-more n (λ s. f (suc s))))
+    ∙ ap (λ t. t +ℤ f (suc n)) (sum-first n f)
+    ∙ +ℤ-assoc (f 0) (sum n (λ s. f (suc s))) (f (suc n))
+    ∙ ap (λ t. f 0 +ℤ t) (sym (sum-more n (λ s. f (suc s))))
 
 -- a sum backwards
 pub sum-reverse : (L : ℕ) (f : ℕ → ℤ) → sum (suc L) f ≡ sum (suc L) (λ s. f (L - s))
 sum-reverse zero f = sum-cong 1 f (λ s. f (0 - s)) (λ s h. ap f (omega arith))
 sum-reverse (suc L) f =
     sum-more (suc L) f
-        ∙ ap (λ t. t +ℤ f (suc L)) (sum-reverse L f)
-        ∙ +ℤ-comm (sum (suc L) (λ s. f (L - s))) (f (suc L))
-        ∙ ap₂ _+ℤ_ (ap f (omega arith)) (sum-cong (suc L) (λ s. f (L - s)) (λ s. f (suc L - suc s)) (λ s h. ap f (omega arith)))
-        ∙ sym (sum-first (suc L) (λ s. f (suc L - s)))
+    ∙ ap (λ t. t +ℤ f (suc L)) (sum-reverse L f)
+    ∙ +ℤ-comm (sum (suc L) (λ s. f (L - s))) (f (suc L))
+    ∙ ap₂ _+ℤ_ (ap f (omega arith)) (sum-cong (suc L) (λ s. f (L - s)) (λ s. f (suc L - suc s)) (λ s h. ap f (omega arith)))
+    ∙ sym (sum-first (suc L) (λ s. f (suc L - s)))
 
 -- two sums exchanged
 pub sum-swap : (m n : ℕ) (f : ℕ → ℕ → ℤ) → sum m (λ i. sum n (λ j. f i j)) ≡ sum n (λ j. sum m (λ i. f i j))
 sum-swap zero n f = sum-none (λ i. sum n (λ j. f i j)) ∙ sym (sum-zero n (λ j. sum 0 (λ i. f i j)) (λ j h. sum-none (λ i. f i j)))
 sum-swap (suc m) n f =
     sum-more m (λ i. sum n (λ j. f i j))
-        ∙ ap (λ t. t +ℤ sum n (λ j. f m j)) (sum-swap m n f)
-        ∙ sym (sum-add n (λ j. sum m (λ i. f i j)) (λ j. f m j))
-        ∙ sum-cong n (λ j. sum m (λ i. f i j) +ℤ f m j) (λ j. sum (suc m) (λ i. f i j)) (λ j h. sym (sum-more m (λ i. f i j)))
+    ∙ ap (λ t. t +ℤ sum n (λ j. f m j)) (sum-swap m n f)
+    ∙ sym (sum-add n (λ j. sum m (λ i. f i j)) (λ j. f m j))
+    ∙ sum-cong n (λ j. sum m (λ i. f i j) +ℤ f m j) (λ j. sum (suc m) (λ i. f i j)) (λ j h. sym (sum-more m (λ i. f i j)))
 
 shifted-at : (a u : ℕ) (W : ℕ → ℤ) → shifted W a (a + u) ≡ W u
 shifted-at a u W = ap₂ (λ b s. cond b (W s) (pos 0)) (le-leb a (a + u) (omega arith)) (omega arith)
@@ -101,26 +101,25 @@ shifted-at a u W = ap₂ (λ b s. cond b (W s) (pos 0)) (le-leb a (a + u) (omega
 pub sum-shifted : (a n : ℕ) (W g : ℕ → ℤ) → sum (a + n) (λ s. shifted W a s *ℤ g s) ≡ sum n (λ u. W u *ℤ g (a + u))
 sum-shifted a n W g =
     sum-split a n (λ s. shifted W a s *ℤ g s)
-        ∙ ap₂ _+ℤ_
-            (sum-zero a (λ s. shifted W a s *ℤ g s) (λ s h. ap (λ b. cond b (W (s - a)) (pos 0) *ℤ g s) (lt-leb a s h) ∙ zero-*ℤ (g s)))
-            (sum-cong n (λ u. shifted W a (a + u) *ℤ g (a + u)) (λ u. W u *ℤ g (a + u)) (λ u h. ap (λ t. t *ℤ g (a + u)) (shifted-at a u W)))
-        ∙ +ℤ-idl (sum n (λ u. W u *ℤ g (a + u)))
+    ∙ ap₂ _+ℤ_
+    (sum-zero a (λ s. shifted W a s *ℤ g s) (λ s h. ap (λ b. cond b (W (s - a)) (pos 0) *ℤ g s) (lt-leb a s h) ∙ zero-*ℤ (g s)))
+    (sum-cong n (λ u. shifted W a (a + u) *ℤ g (a + u)) (λ u. W u *ℤ g (a + u)) (λ u h. ap (λ t. t *ℤ g (a + u)) (shifted-at a u W)))
+    ∙ +ℤ-idl (sum n (λ u. W u *ℤ g (a + u)))
 
 -- terms that are 0 except at the multiples of k
 pub sum-multiples : (k L : ℕ) (f : ℕ → ℤ) → ((s : ℕ) → (s % suc k ≡ 0 → ⊥) → f s ≡ pos 0) → sum (suc (suc k * L)) f ≡ sum (suc L) (λ u. f (suc k * u))
 sum-multiples k zero f e =
     ap (λ t. sum (suc t) f) (mul-zero (suc k))
-        ∙ sum-cong 1 f (λ u. f (suc k * u)) (λ s h. ap f (start s h))
+    ∙ sum-cong 1 f (λ u. f (suc k * u)) (λ s h. ap f (start s h))
   where
     start : (s : ℕ) → s < 1 → s ≡ suc k * s
     start zero h = sym (mul-zero (suc k))
     start (suc s) h = absurd (omega arith)
-
 sum-multiples k (suc L) f e =
     ap (λ t. sum t f) n
-        ∙ sum-split (suc (suc k * L)) (suc k) f
-        ∙ ap₂ _+ℤ_ (sum-multiples k L f e) (sum-more k g ∙ ap (λ t. t +ℤ g k) (sum-zero k g (λ j h. e (suc (suc k * L) + j) (between j h))) ∙ +ℤ-idl (g k) ∙ ap f last)
-        ∙ sym (sum-more (suc L) (λ u. f (suc k * u)))
+    ∙ sum-split (suc (suc k * L)) (suc k) f
+    ∙ ap₂ _+ℤ_ (sum-multiples k L f e) (sum-more k g ∙ ap (λ t. t +ℤ g k) (sum-zero k g (λ j h. e (suc (suc k * L) + j) (between j h))) ∙ +ℤ-idl (g k) ∙ ap f last)
+    ∙ sym (sum-more (suc L) (λ u. f (suc k * u)))
   where
     g : ℕ → ℤ
     g j = f (suc (suc k * L) + j)

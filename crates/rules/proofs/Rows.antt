@@ -1,20 +1,21 @@
 -- The table of the built-in rules: one test over all its rows, and what a row that passes it promises.
 use mathlib.Core.Path.{_≡_, refl, sym, ap, subst, _∙_}
-use mathlib.Core.Bool.{Bool, true, false, _&&_, _||_}
+use mathlib.Core.Bool.{Bool, true, false, not, _&&_, _||_}
 use mathlib.Core.List.{List, [], _∷_}
 use mathlib.Core.Logic.{_⊎_, ⊎-elim}
-use Prim.Native.Nat.{ℕ, zero, suc, _+_, _-_, _*_, _^_, _≤_, _<_}
+use Prim.Native.Nat.{ℕ, zero, suc, _+_, _-_, _%_, _*_, _^_, _≤_, _<_}
 use native.Mathlib.Omega.{arith}
 use lib.Dec.{leb, ltb, eqb}
 use lib.IntN.{ℤ, pos, negsuc, natAbs, _*ℤ_}
 use lib.Signed.{leZ, _≤ℤ_}
 use lib.ListN.{getD, length}
 use borrow.Author.Differences.{ints, at-most-in}
-use Rattle.std.proofs.shelf.Tests.{and-parts, or-cases, cases-lt, leb-true, eqb-true}
+use Rattle.std.proofs.shelf.Tests.{and-parts, both-ways, cases-lt, eqb-true, leb-true, not-true, or-cases}
 use Rattle.std.proofs.shelf.Ways.{decides-below-and}
 use Rattle.std.proofs.shelf.Lists.{getD-past}
 use Rattle.algebra.specs.Sums.{sum, abs, _^ℤ_}
-use Rattle.rules.specs.Meaning.{Meaning, Weighting, Sound}
+use Rattle.algebra.specs.Weights.{Exact, Mirrored}
+use Rattle.rules.specs.Meaning.{Sound}
 use Rattle.rules.specs.BuiltIn.{rows, row-of, meaning-of-row, code-of}
 use Rattle.rules.specs.declared.built_in.Row.{Row}
 use Rattle.rules.specs.declared.built_in.BuiltIn.{BuiltIn}
@@ -61,12 +62,26 @@ weights-pass r =
 ceiling-passes : Row → Bool
 ceiling-passes r = eqZ (absolute-sum r) (pos (r .ceiling)) && leb (r .ceiling) (2 ^ 40)
 
+-- both sides of moment k: (k+1) · Σ W(s)·sᵏ and D · Lᵏ⁺¹
+abbrev moment-left : Row → ℕ → ℤ
+moment-left r k = pos (suc k) *ℤ sum (suc (r .span)) (λ s. weight-at r s *ℤ (pos s ^ℤ k))
+
+abbrev moment-right : Row → ℕ → ℤ
+moment-right r k = pos (r .denominator) *ℤ (pos (r .span) ^ℤ suc k)
+
+moments-pass : Row → Bool
+moments-pass r = every (suc (r .degree)) (λ k. eqZ (moment-left r k) (moment-right r k))
+
+symmetry-passes : Row → Bool
+symmetry-passes r =
+    not (r .symmetric) || (eqb (r .degree % 2) 1 && every (suc (r .span)) (λ s. eqZ (weight-at r s) (weight-at r (r .span - s))))
+
 passes : Row → Bool
-passes r = sizes-pass r && (weights-pass r && ceiling-passes r)
+passes r = sizes-pass r && (weights-pass r && (ceiling-passes r && (moments-pass r && symmetry-passes r)))
 
 -- the one test
 table-passes : every 10 (λ i. passes (getD rows i none)) ≡ true
-unfolding passes sizes-pass weights-pass ceiling-passes sum
+unfolding passes sizes-pass weights-pass ceiling-passes moments-pass symmetry-passes sum _^ℤ_
 table-passes = refl
 
 row-index : (b : BuiltIn) → code-of b - 1 < 10
@@ -97,32 +112,54 @@ beyond-span r e s h =
         ⊎-elim (λ u. absurd (omega (arith, leb-true _ _ u))) (λ u. eqZ-true (weight-at r s) (pos 0) u)
         (or-cases (leb s (r .span)) _ t)
 
-ceiling-of-row : (r : Row) → passes r ≡ true → r .ceiling ≡ natAbs (absolute-sum r)
-unfolding passes ceiling-passes
+exact-row : (r : Row) → moments-pass r ≡ true → Exact (r .span) (weight-at r) (r .denominator) (r .degree)
+unfolding moments-pass
+exact-row r e k h =
+    eqZ-true (moment-left r k) (moment-right r k)
+    (every-true (suc (r .degree)) (λ i. eqZ (moment-left r i) (moment-right r i)) e k (omega arith))
+
+symmetric-row : (r : Row) → symmetry-passes r ≡ true → r .symmetric ≡ true → Mirrored (r .span) (weight-at r) × (r .degree % 2 ≡ 1)
+unfolding symmetry-passes
+symmetric-row r e y =
+    ⊎-elim (λ n. absurd (both-ways (r .symmetric) (not-true (r .symmetric) n) y))
+    (λ t. let p = and-parts (eqb (r .degree % 2) 1) _ t in
+    (λ s h. eqZ-true (weight-at r s) (weight-at r (r .span - s)) (every-true (suc (r .span)) (λ i. eqZ (weight-at r i) (weight-at r (r .span - i))) (p .1) s (omega arith)), eqb-true _ _ (p .0)))
+    (or-cases (not (r .symmetric)) _ e)
+
+-- the five tests that a row passes
+parts : (r : Row) → passes r ≡ true → (sizes-pass r ≡ true) × (weights-pass r ≡ true) × (ceiling-passes r ≡ true) × (moments-pass r ≡ true) × (symmetry-passes r ≡ true)
+unfolding passes
+parts r e =
+    let p = and-parts (sizes-pass r) _ e in
+    let q = and-parts (weights-pass r) _ (p .1) in
+    let c = and-parts (ceiling-passes r) _ (q .1) in
+    let m = and-parts (moments-pass r) _ (c .1) in
+    (p .0, q .0, c .0, m .0, m .1)
+
+ceiling-of-row : (r : Row) → ceiling-passes r ≡ true → (absolute-sum r ≡ pos (r .ceiling)) × (r .ceiling ≤ 2 ^ 40)
+unfolding ceiling-passes
 ceiling-of-row r e =
-    let p = and-parts (weights-pass r) _ (and-parts (sizes-pass r) _ e .1) in
-    sym (ap natAbs (eqZ-true (absolute-sum r) (pos (r .ceiling)) (and-parts _ _ (p .1) .0)))
+    let c = and-parts (eqZ (absolute-sum r) (pos (r .ceiling))) _ e in
+    (eqZ-true (absolute-sum r) (pos (r .ceiling)) (c .0), leb-true _ _ (c .1))
 
 -- a row that passes keeps the promises of a rule
 row-sound : (r : Row) → passes r ≡ true → Sound (meaning-of-row r)
-unfolding passes ceiling-passes
 row-sound r e =
-    let p = and-parts (sizes-pass r) _ e in
-    let q = and-parts (weights-pass r) _ (p .1) in
-    let c = and-parts (eqZ (absolute-sum r) (pos (r .ceiling))) _ (q .1) in
+    let p = parts r e in
     let n = sound-sizes r (p .0) in
-    let is : r .ceiling ≡ natAbs (absolute-sum r) = ceiling-of-row r e in
-    let total : absolute-sum r ≡ pos (r .ceiling) = eqZ-true _ _ (c .0) in
+    let c = ceiling-of-row r (p .2) in
+    let is : natAbs (absolute-sum r) ≡ r .ceiling = ap natAbs (c .0) in
     record {
       span = record { least = n .0; most = omega arith; stations = refl };
       denominator = record { least = n .2; most = n .3 };
-      beyond = beyond-span r (q .0);
-      ceiling = record { bounded = at-most-in _ _ (omega (arith, ints, total, is)); most = omega (arith, leb-true _ _ (c .1)) };
-      degree = n .4;
+      beyond = beyond-span r (p .1);
+      ceiling = record { bounded = at-most-in _ _ (omega (arith, ints, c .0, is)); most = omega (arith, is, c .1) };
+      exact = record { most = n .4; exact = exact-row r (p .3) };
+      symmetry = record { mirrored = λ y. symmetric-row r (p .4) y .0; odd = λ y. symmetric-row r (p .4) y .1 };
     }
 
 pub built-in-sound : (b : BuiltIn) → Sound (meaning-of-row (row-of b))
 built-in-sound b = row-sound (row-of b) (row-passes b)
 
 pub built-in-ceiling : (b : BuiltIn) → row-of b .ceiling ≡ natAbs (absolute-sum (row-of b))
-built-in-ceiling b = ceiling-of-row (row-of b) (row-passes b)
+built-in-ceiling b = sym (ap natAbs (ceiling-of-row (row-of b) (parts (row-of b) (row-passes b) .2) .0))

@@ -1,11 +1,11 @@
 -- What a rule tells, as one record, and what it promises of it.
 use mathlib.Core.Path.{_≡_}
-use mathlib.Core.Bool.{Bool}
-use Prim.Native.Nat.{ℕ, suc, _^_, _≤_}
+use mathlib.Core.Bool.{Bool, true}
+use Prim.Native.Nat.{ℕ, suc, _^_, _%_, _≤_}
 use lib.IntN.{ℤ, pos}
 use lib.Signed.{_≤ℤ_}
 use Rattle.algebra.specs.Sums.{sum, abs}
-use Rattle.algebra.specs.Weights.{ZeroBeyond}
+use Rattle.algebra.specs.Weights.{Exact, Mirrored, ZeroBeyond}
 
 -- what a weighted sum needs: the number of stations, a weight for each, the common denominator, and a ceiling for the sum of the absolute weights
 pub record Weighting : Type 0 where
@@ -24,11 +24,11 @@ pub record Meaning : Type 0 where
 -- what a rule tells that holds these numbers, with the stations 0 to the span
 abbrev pub telling : (span denominator degree : ℕ) → (symmetric : Bool) → (ceiling : ℕ) → (weight : ℕ → ℤ) → Meaning
 telling l d n y c w = record {
-    weighting = record { stations = suc l; weight = w; denominator = d; ceiling = c };
-    span = l;
-    degree = n;
-    symmetric = y
-    }
+  weighting = record { stations = suc l; weight = w; denominator = d; ceiling = c };
+  span = l;
+  degree = n;
+  symmetric = y;
+}
 
 -- the denominator is 1 to 2^31
 pub record DenominatorInRange (w : Weighting) : Type 0 where
@@ -50,9 +50,15 @@ pub record SpanInRange (m : Meaning) : Type 0 where
 abbrev pub ZeroBeyondSpan : Meaning → Type 0
 ZeroBeyondSpan m = ZeroBeyond (m .span) (m .weighting .weight)
 
--- the degree is at most 11
-abbrev pub DegreeInRange : Meaning → Type 0
-DegreeInRange m = m .degree ≤ 11
+-- every power up to the degree, which is at most 11, is integrated exactly
+pub record ExactToDegree (m : Meaning) : Type 0 where
+  pub most : m .degree ≤ 11
+  pub exact : Exact (m .span) (m .weighting .weight) (m .weighting .denominator) (m .degree)
+
+-- a rule told symmetric has mirrored weights and an odd degree
+pub record MirroredIfSymmetric (m : Meaning) : Type 0 where
+  pub mirrored : m .symmetric ≡ true → Mirrored (m .span) (m .weighting .weight)
+  pub odd : m .symmetric ≡ true → m .degree % 2 ≡ 1
 
 -- what every rule promises
 pub record Sound (m : Meaning) : Type 0 where
@@ -60,4 +66,5 @@ pub record Sound (m : Meaning) : Type 0 where
   pub denominator : DenominatorInRange (m .weighting)
   pub beyond : ZeroBeyondSpan m
   pub ceiling : WithinCeiling (m .weighting)
-  pub degree : DegreeInRange m
+  pub exact : ExactToDegree m
+  pub symmetry : MirroredIfSymmetric m

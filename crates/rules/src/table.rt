@@ -2,12 +2,14 @@
 mod answers;
 
 pub use answers::TableRule;
-ghost use Prim.Native.Nat.{ℕ, suc, _≤_, _<_, _^_};
+ghost use Prim.Native.Nat.{ℕ, suc, _%_, _^_, _≤_, _<_};
+ghost use mathlib.Core.Bool.{true};
 ghost use mathlib.Core.Path.{_≡_};
 ghost use lib.IntN.{ℤ, pos};
 ghost use lib.ListN.{getD};
 ghost use lib.Signed.{_≤ℤ_};
 ghost use Rattle.algebra.specs.Sums.{sum, abs};
+ghost use Rattle.algebra.specs.Weights.{Exact, Mirrored};
 
 // The ghost fields are the promises of a rule, so that no table exists that breaks one.
 #[derive(Drop)]
@@ -26,4 +28,7 @@ pub struct Table {
     ghost bounded: { sum (suc span) (λ s. abs (getD weights s (pos 0))) ≤ℤ pos ceiling },
     ghost ceiling_most: { ceiling ≤ 2 ^ 40 },
     ghost degree_most: { degree ≤ 11 },
+    ghost exact: { Exact span (λ s. getD weights s (pos 0)) denominator degree },
+    ghost mirrored: { symmetric ≡ true → Mirrored span (λ s. getD weights s (pos 0)) },
+    ghost odd: { symmetric ≡ true → degree % 2 ≡ 1 },
 }

@@ -1,0 +1,2 @@
+-- Arrays of weights that a loop fills.
+use Prim.Native.Nat.{ℕ}
