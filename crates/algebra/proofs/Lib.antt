@@ -1,5 +1,10 @@
 pub mod Absolute
+pub mod Affine
+pub mod Binomial
 pub mod Divisors
 pub mod Integers
+pub mod Moments
+pub mod Powers
+pub mod Ring
 pub mod Rows
 pub mod Sums

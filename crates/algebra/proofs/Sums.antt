@@ -3,13 +3,14 @@ use mathlib.Core.Path.{_≡_, refl, sym, _∙_, ap, ap₂}
 use Prim.Native.Nat.{ℕ, zero, suc, _+_, _-_, _*_, _%_, _≤_, _<_}
 use native.Mathlib.Nat.{add-zero, add-suc, mul-zero, mul-suc, mul-add-mod-self-left, mod-eq-of-lt}
 use native.Mathlib.Omega.{arith}
-use lib.IntN.{ℤ, pos, _+ℤ_, _*ℤ_, +ℤ-idl, +ℤ-idr, +ℤ-assoc, +ℤ-comm, *ℤ-zero, zero-*ℤ}
+use lib.IntN.{ℤ, pos, _+ℤ_, _*ℤ_, negℤ, negℤ-+ℤ, +ℤ-idl, +ℤ-idr, +ℤ-assoc, +ℤ-comm, *ℤ-comm, *ℤ-zero, zero-*ℤ}
 use mathlib.Core.Bool.{cond}
 use Rattle.std.proofs.shelf.Tests.{le-leb, lt-leb}
 use Rattle.algebra.specs.Sums.{sum}
-use Rattle.algebra.specs.Weights.{shifted}
+use Rattle.algebra.specs.Weights.{ZeroBeyond, shifted}
 use Rattle.algebra.proofs.Integers.{*ℤ-distl, +ℤ-exchange}
 
+-- the clauses of the sum
 pub sum-none : (f : ℕ → ℤ) → sum 0 f ≡ pos 0
 unfolding sum
 sum-none f = refl
@@ -39,6 +40,14 @@ sum-add (suc n) f g =
     ∙ +ℤ-exchange (sum n f) (sum n g) (f n) (g n)
     ∙ sym (ap₂ _+ℤ_ (sum-more n f) (sum-more n g))
 
+-- the sum of opposites
+pub sum-neg : (n : ℕ) (f : ℕ → ℤ) → sum n (λ s. negℤ (f s)) ≡ negℤ (sum n f)
+sum-neg zero f = sum-none (λ s. negℤ (f s)) ∙ sym (ap negℤ (sum-none f))
+sum-neg (suc n) f =
+    sum-more n (λ s. negℤ (f s))
+    ∙ ap (λ t. t +ℤ negℤ (f n)) (sum-neg n f)
+    ∙ sym (ap negℤ (sum-more n f) ∙ negℤ-+ℤ (sum n f) (f n))
+
 -- a factor moves into a sum
 pub sum-scale : (c : ℤ) (n : ℕ) (f : ℕ → ℤ) → c *ℤ sum n f ≡ sum n (λ s. c *ℤ f s)
 sum-scale c zero f = ap (λ t. c *ℤ t) (sum-none f) ∙ *ℤ-zero c ∙ sym (sum-none (λ s. c *ℤ f s))
@@ -47,6 +56,10 @@ sum-scale c (suc n) f =
     ∙ *ℤ-distl c (sum n f) (f n)
     ∙ ap (λ t. t +ℤ (c *ℤ f n)) (sum-scale c n f)
     ∙ sym (sum-more n (λ s. c *ℤ f s))
+
+pub sum-scale-right : (c : ℤ) (n : ℕ) (f : ℕ → ℤ) → sum n f *ℤ c ≡ sum n (λ s. f s *ℤ c)
+sum-scale-right c n f =
+    *ℤ-comm (sum n f) c ∙ sum-scale c n f ∙ sum-cong n (λ s. c *ℤ f s) (λ s. f s *ℤ c) (λ s h. *ℤ-comm c (f s))
 
 -- a sum in two parts
 pub sum-split : (m n : ℕ) (f : ℕ → ℤ) → sum (m + n) f ≡ sum m f +ℤ sum n (λ s. f (m + s))
@@ -94,17 +107,26 @@ sum-swap (suc m) n f =
     ∙ sym (sum-add n (λ j. sum m (λ i. f i j)) (λ j. f m j))
     ∙ sum-cong n (λ j. sum m (λ i. f i j) +ℤ f m j) (λ j. sum (suc m) (λ i. f i j)) (λ j h. sym (sum-more m (λ i. f i j)))
 
-shifted-at : (a u : ℕ) (W : ℕ → ℤ) → shifted W a (a + u) ≡ W u
-shifted-at a u W = ap₂ (λ b s. cond b (W s) (pos 0)) (le-leb a (a + u) (omega arith)) (omega arith)
+-- a row that is 0 past L, moved up by a: the sum starts at a, and any end past a + L serves
+pub sum-shifted : (a L N : ℕ) (W g : ℕ → ℤ) → ZeroBeyond L W → a + L < N → sum N (λ s. shifted W a s *ℤ g s) ≡ sum (suc L) (λ u. W u *ℤ g (a + u))
+sum-shifted a L N W g z h =
+    ap (λ t. sum t f) (omega arith)
+    ∙ sum-beyond (a + suc L) (N - (a + suc L)) f past
+    ∙ sum-split a (suc L) f
+    ∙ ap₂ _+ℤ_ (sum-zero a f before) (sum-cong (suc L) (λ u. f (a + u)) (λ u. W u *ℤ g (a + u)) inside)
+    ∙ +ℤ-idl (sum (suc L) (λ u. W u *ℤ g (a + u)))
+  where
+    f : ℕ → ℤ
+    f s = shifted W a s *ℤ g s
 
--- a row moved up by a: the sum starts at a
-pub sum-shifted : (a n : ℕ) (W g : ℕ → ℤ) → sum (a + n) (λ s. shifted W a s *ℤ g s) ≡ sum n (λ u. W u *ℤ g (a + u))
-sum-shifted a n W g =
-    sum-split a n (λ s. shifted W a s *ℤ g s)
-    ∙ ap₂ _+ℤ_
-    (sum-zero a (λ s. shifted W a s *ℤ g s) (λ s h. ap (λ b. cond b (W (s - a)) (pos 0) *ℤ g s) (lt-leb a s h) ∙ zero-*ℤ (g s)))
-    (sum-cong n (λ u. shifted W a (a + u) *ℤ g (a + u)) (λ u. W u *ℤ g (a + u)) (λ u h. ap (λ t. t *ℤ g (a + u)) (shifted-at a u W)))
-    ∙ +ℤ-idl (sum n (λ u. W u *ℤ g (a + u)))
+    before : (s : ℕ) → s < a → f s ≡ pos 0
+    before s l = ap (λ b. cond b (W (s - a)) (pos 0) *ℤ g s) (lt-leb a s l) ∙ zero-*ℤ (g s)
+
+    inside : (u : ℕ) → u < suc L → f (a + u) ≡ W u *ℤ g (a + u)
+    inside u l = ap₂ (λ b s. cond b (W s) (pos 0) *ℤ g (a + u)) (le-leb a (a + u) (omega arith)) (omega arith)
+
+    past : (s : ℕ) → a + suc L ≤ s → f s ≡ pos 0
+    past s l = ap₂ (λ b t. cond b t (pos 0) *ℤ g s) (le-leb a s (omega arith)) (z (s - a) (omega arith)) ∙ zero-*ℤ (g s)
 
 -- terms that are 0 except at the multiples of k
 pub sum-multiples : (k L : ℕ) (f : ℕ → ℤ) → ((s : ℕ) → (s % suc k ≡ 0 → ⊥) → f s ≡ pos 0) → sum (suc (suc k * L)) f ≡ sum (suc L) (λ u. f (suc k * u))

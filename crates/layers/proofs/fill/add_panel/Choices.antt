@@ -1,16 +1,11 @@
 use mathlib.Core.Path.{_≡_}
-use mathlib.Core.Bool.{cond}
-use Prim.Native.Nat.{ℕ, _+_, _<_, _-_}
-use lib.IntN.{pos, _+ℤ_}
-use lib.Dec.{ltb}
-use lib.ListN.{getD}
-use Rattle.algebra.specs.Weights.{shifted}
+use lib.IntN.{pos}
+use lib.ListN.{getD, length}
+use Rattle.layers.proofs.Filling.{Added}
 use Rattle.layers.proofs.fill.add_panel.Given as given
 
 -- the stations of the panel before this one are done
 abbrev pub Inv-loop-station : given.InvT-loop-station
 Inv-loop-station g l =
-    (s : ℕ) →
-    getD (l .weights) s (pos 0) ≡
-    cond (ltb s (l .first + l .station)) (getD (l .entry .weights) s (pos 0) +ℤ shifted (g .R·Rule .meaning (l .below) .weighting .weight) (l .first) s)
-    (getD (l .entry .weights) s (pos 0))
+    Added (l .weights) (λ s. getD (l .entry .weights) s (pos 0)) (g .R·Rule .meaning (l .below) .weighting .weight) (l .first) (l .station)
+    × (length (l .weights) ≡ 1025)
