@@ -1,4 +1,5 @@
 // Layers: rules made of any rule below, and piles of layers.
+mod divisor;
 mod fill;
 mod layer;
 
