@@ -93,6 +93,14 @@ accepted-or (Some c) a f = f c
 abbrev pub laid : Layer → Meaning → Meaning
 laid l r = accepted-or (refusal l r) (made l r) (λ _. r)
 
+-- a refusal by a layer at a place
+abbrev pub at-place : ℕ → Cause → Fault
+at-place p c = record { cause = c; layer = FromLayer; place = p }
+
+-- whether sizes are admitted
+abbrev pub admission : (span degree ceiling denominator place : ℕ) → Result (Unit {0}) Fault
+admission l n c d p = accepted-or (oversize l n c d) (Ok tt) (λ e. Err (at-place p e))
+
 -- what a making replies: the rule that the layer makes, or its refusal at a place
 abbrev pub making : Layer → ℕ → Meaning → Result Meaning Fault
-making l p r = accepted-or (refusal l r) (Ok (made l r)) (λ c. Err (record { cause = c; layer = FromLayer; place = p }))
+making l p r = accepted-or (refusal l r) (Ok (made l r)) (λ e. Err (at-place p e))

@@ -2,5 +2,7 @@
 mod divisor;
 mod fill;
 mod layer;
+mod make;
+mod sizes;
 
 pub use layer::Layer;
