@@ -101,18 +101,19 @@ filled-none f =
     (λ s. zeros 1025 s ∙ sym (cond-false _ _ _ (le-ltb s 0 (omega arith))), length-replicate 1025 (pos 0))
 
 pub filled-more : (ws : List ℤ) (n : ℕ) (f : ℕ → ℤ) (w : ℤ) → n < 1025 → w ≡ f n → Filled ws n f → Filled (set ws n w) (n + 1) f
-filled-more ws n f w lt is h =
-    (λ s.
-    ⊎-elim
-    (λ eq.
-    let test : ltb s (n + 1) ≡ true = lt-ltb s (n + 1) (omega arith) in
-    let within : n < length ws = omega (arith, h .1) in
-    ap (λ t. getD (set ws n w) t (pos 0)) eq ∙ getD-set-same ws n w (pos 0) within ∙ is ∙ ap f (sym eq) ∙ sym (cond-true _ _ _ test))
-    (λ ne.
-    let same : ltb s n ≡ ltb s (n + 1) = grind (arith, tells) in
-    getD-set-other ws n s w (pos 0) ne ∙ h .0 s ∙ ap (λ t. cond t (f s) (pos 0)) same)
-    (cases-eq s n),
-    length-set ws n w ∙ h .1)
+filled-more ws n f w lt is h = (
+  λ s.
+      ⊎-elim
+      (λ eq.
+      let test : ltb s (n + 1) ≡ true = lt-ltb s (n + 1) (omega arith) in
+      let within : n < length ws = omega (arith, h .1) in
+      ap (λ t. getD (set ws n w) t (pos 0)) eq ∙ getD-set-same ws n w (pos 0) within ∙ is ∙ ap f (sym eq) ∙ sym (cond-true _ _ _ test))
+      (λ ne.
+      let same : ltb s n ≡ ltb s (n + 1) = grind (arith, tells) in
+      getD-set-other ws n s w (pos 0) ne ∙ h .0 s ∙ ap (λ t. cond t (f s) (pos 0)) same)
+      (cases-eq s n),
+  length-set ws n w ∙ h .1,
+)
 
 pub filled-all : (ws : List ℤ) (n : ℕ) (f : ℕ → ℤ) → ((s : ℕ) → n ≤ s → f s ≡ pos 0) → Filled ws n f → Holds ws f
 filled-all ws n f z h s =
@@ -142,23 +143,24 @@ between-multiples k u s l h e =
 
 -- one more station of a stretched row
 pub stretched-more : (ws : List ℤ) (k u : ℕ) (W : ℕ → ℤ) (w : ℤ) → 1 ≤ k → k * u < 1025 → w ≡ pos k *ℤ W u → Filled ws (k * u) (stretch-weight k W) → Filled (set ws (k * u) w) (k * (u + 1)) (stretch-weight k W)
-stretched-more ws k u W w some lt is h =
-    (λ s.
-    ⊎-elim
-    (λ eq.
-    let test : ltb s (k * (u + 1)) ≡ true = lt-ltb s (k * (u + 1)) (omega arith) in
-    let within : k * u < length ws = omega (arith, h .1) in
-    ap (λ t. getD (set ws (k * u) w) t (pos 0)) eq ∙ getD-set-same ws (k * u) w (pos 0) within ∙ is ∙ sym (stretch-at k W u some) ∙
-    ap (stretch-weight k W) (sym eq) ∙ sym (cond-true _ _ _ test))
-    (λ ne.
-    getD-set-other ws (k * u) s w (pos 0) ne ∙ h .0 s ∙
-    ⊎-elim
-    (λ before. cond-true _ _ _ (lt-ltb s (k * u) before) ∙ sym (cond-true _ _ _ (lt-ltb s (k * (u + 1)) (omega arith))))
-    (λ after.
-    cond-false _ _ _ (le-ltb s (k * u) after) ∙
-    ⊎-elim
-    (λ inside. sym (stretch-off k W s (between-multiples k u s (omega arith) inside)) ∙ sym (cond-true _ _ _ (lt-ltb s (k * (u + 1)) inside)))
-    (λ beyond. sym (cond-false _ _ _ (le-ltb s (k * (u + 1)) beyond))) (cases-lt s (k * (u + 1))))
-    (cases-lt s (k * u)))
-    (cases-eq s (k * u)),
-    length-set ws (k * u) w ∙ h .1)
+stretched-more ws k u W w some lt is h = (
+  λ s.
+      ⊎-elim
+      (λ eq.
+      let test : ltb s (k * (u + 1)) ≡ true = lt-ltb s (k * (u + 1)) (omega arith) in
+      let within : k * u < length ws = omega (arith, h .1) in
+      ap (λ t. getD (set ws (k * u) w) t (pos 0)) eq ∙ getD-set-same ws (k * u) w (pos 0) within ∙ is ∙ sym (stretch-at k W u some) ∙
+      ap (stretch-weight k W) (sym eq) ∙ sym (cond-true _ _ _ test))
+      (λ ne.
+      getD-set-other ws (k * u) s w (pos 0) ne ∙ h .0 s ∙
+      ⊎-elim
+      (λ before. cond-true _ _ _ (lt-ltb s (k * u) before) ∙ sym (cond-true _ _ _ (lt-ltb s (k * (u + 1)) (omega arith))))
+      (λ after.
+      cond-false _ _ _ (le-ltb s (k * u) after) ∙
+      ⊎-elim
+      (λ inside. sym (stretch-off k W s (between-multiples k u s (omega arith) inside)) ∙ sym (cond-true _ _ _ (lt-ltb s (k * (u + 1)) inside)))
+      (λ beyond. sym (cond-false _ _ _ (le-ltb s (k * (u + 1)) beyond))) (cases-lt s (k * (u + 1))))
+      (cases-lt s (k * u)))
+      (cases-eq s (k * u)),
+  length-set ws (k * u) w ∙ h .1,
+)

@@ -1,3 +1,4 @@
 pub mod Filling
 pub mod Keeps
 pub mod Making
+pub mod Piling

@@ -46,17 +46,17 @@ making-accepted l p r h = ap (λ o. accepted-or o (Ok (made l r)) (λ c. Err (at
 -- what a table of these sizes and weights tells
 pub tells-made : (m : Meaning) (z : Sizes) (ws : List ℤ) (y : Bool) → m .weighting .stations ≡ suc (m .span) → z ≡ sizes-of m → y ≡ m .symmetric → Holds ws (m .weighting .weight) → telling (z .span) (z .denominator) (z .degree) y (z .ceiling) (λ s. getD ws s (pos 0)) ≡ m
 tells-made m z ws y st ez ey h = λ i. record {
-    weighting =
-        record {
-            stations = (ap (λ t. suc (t .span)) ez ∙ sym st) i;
-            weight = λ s. h s i;
-            denominator = ez i .denominator;
-            ceiling = ez i .ceiling
-            };
-    span = ez i .span;
-    degree = ez i .degree;
-    symmetric = ey i
-    }
+  weighting =
+      record {
+        stations = (ap (λ t. suc (t .span)) ez ∙ sym st) i;
+        weight = λ s. h s i;
+        denominator = ez i .denominator;
+        ceiling = ez i .ceiling;
+      };
+  span = ez i .span;
+  degree = ez i .degree;
+  symmetric = ey i;
+}
 
 made-stations : (l : Layer) (r : Meaning) → made l r .weighting .stations ≡ suc (made l r .span)
 made-stations (Panels m) r = refl

@@ -104,3 +104,18 @@ admission l n c d p = accepted-or (oversize l n c d) (Ok tt) (λ e. Err (at-plac
 -- what a making replies: the rule that the layer makes, or its refusal at a place
 abbrev pub making : Layer → ℕ → Meaning → Result Meaning Fault
 making l p r = accepted-or (refusal l r) (Ok (made l r)) (λ e. Err (at-place p e))
+
+-- the rule if there is one, through f
+abbrev pub and-then : Result Meaning Fault → (Meaning → Result Meaning Fault) → Result Meaning Fault
+and-then (Ok m) f = f m
+and-then (Err e) f = Err e
+
+-- what the making of a list of layers replies, the first at place p
+abbrev pub piling : List Layer → ℕ → Meaning → Result Meaning Fault
+piling [] p r = Ok r
+piling (l ∷ ls) p r = and-then (making l p r) (λ m. piling ls (p + 1) m)
+
+-- the rule with a list of layers on it, each that is refused left out
+abbrev pub piled : List Layer → Meaning → Meaning
+piled [] r = r
+piled (l ∷ ls) r = piled ls (laid l r)

@@ -10,20 +10,20 @@ use Rattle.layers.specs.declared.sizes.Sizes.{Sizes}
 
 abbrev pub sizes-of : Meaning → Sizes
 sizes-of m = record {
-    span = m .span;
-    degree = m .degree;
-    ceiling = m .weighting .ceiling;
-    denominator = m .weighting .denominator
-    }
+  span = m .span;
+  degree = m .degree;
+  ceiling = m .weighting .ceiling;
+  denominator = m .weighting .denominator;
+}
 
 -- the sizes with ceiling and denominator divided by g
 abbrev pub divided-sizes : ℕ → Meaning → Sizes
 divided-sizes g m = record {
-    span = m .span;
-    degree = m .degree;
-    ceiling = m .weighting .ceiling / g;
-    denominator = m .weighting .denominator / g
-    }
+  span = m .span;
+  degree = m .degree;
+  ceiling = m .weighting .ceiling / g;
+  denominator = m .weighting .denominator / g;
+}
 
 -- the sizes of what the layer makes, or its refusal at a place
 abbrev pub sizing : Layer → ℕ → Meaning → Result Sizes Fault

@@ -69,14 +69,22 @@ pub(crate) fn same_weights<R: Rule>(below: &R) -> [i64; 1025]
 fn shifted_weight<R: Rule>(below: &R, first: usize, station: usize) -> i64
     ensures { λ r. ⌜ r ≡ shifted (meaning (now (below .entry)) .weighting .weight) first station ⌝ }
 {
-    if station >= first { below.weight(station - first) } else { 0 }
+    if station >= first {
+        below.weight(station - first)
+    } else {
+        0
+    }
 }
 
 // Twice the weight at half the station, 0 at odd stations.
 fn doubled_weight<R: Rule>(below: &R, station: usize) -> i64
     ensures { λ r. ⌜ r ≡ stretch-weight 2 (meaning (now (below .entry)) .weighting .weight) station ⌝ }
 {
-    if station % 2 == 0 { 2 * below.weight(station / 2) } else { 0 }
+    if station % 2 == 0 {
+        2 * below.weight(station / 2)
+    } else {
+        0
+    }
 }
 
 // Richardson's combination of two panels and the rule stretched by two.

@@ -103,7 +103,11 @@ fn divided<R: Rule>(below: &R, divisor: u64) -> Sizes
     }
 }
 
-pub(crate) fn lay_panels<R: Rule + Drop>(below: R, count: usize, place: usize) -> Result<Table, Fault>
+pub(crate) fn lay_panels<R: Rule + Drop>(
+    below: R,
+    count: usize,
+    place: usize,
+) -> Result<Table, Fault>
     ensures { λ r. ⌜ mapped told-by (λ e. e) r ≡ making (Layer.Panels count) place (meaning below) ⌝ }
 {
     let sizes = multiplied(&below, count, place)?;
@@ -111,7 +115,11 @@ pub(crate) fn lay_panels<R: Rule + Drop>(below: R, count: usize, place: usize) -
     Ok(sizes.table(below.is_symmetric(), weights))
 }
 
-pub(crate) fn lay_stretch<R: Rule + Drop>(below: R, count: usize, place: usize) -> Result<Table, Fault>
+pub(crate) fn lay_stretch<R: Rule + Drop>(
+    below: R,
+    count: usize,
+    place: usize,
+) -> Result<Table, Fault>
     ensures { λ r. ⌜ mapped told-by (λ e. e) r ≡ making (Layer.Stretch count) place (meaning below) ⌝ }
 {
     let sizes = multiplied(&below, count, place)?;

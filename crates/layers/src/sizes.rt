@@ -11,8 +11,11 @@ use rules::Origin;
 use rules::Table;
 
 pub(crate) const SPAN_LIMIT: usize = 1024;
+
 const DEGREE_LIMIT: usize = 11;
+
 const CEILING_LIMIT: u64 = 1 << 40;
+
 const DENOMINATOR_LIMIT: u64 = 1 << 31;
 
 #[derive(Clone, Copy)]

@@ -14,7 +14,7 @@ loop-station-again g c =
     let D = m .weighting .denominator in
     let W = m .weighting .weight in
     let bits : c .unsigned-abs .result ≡ natAbs (W (c .loop-station .station)) =
-        omega (arith, ints, c .unsigned-abs .ensures, c .weight .ensures) in
+    omega (arith, ints, c .unsigned-abs .ensures, c .weight .ensures) in
     c .greatest-common-found .ensures ∙ ap (λ t. gcd t (c .unsigned-abs .result)) (c .loop-station .inv) ∙
     ap (λ t. gcd (common-divisor D (c .loop-station .station) W) t) bits ∙ ap (λ t. common-divisor D t W) (sym (add-one (c .loop-station .station)))
 
@@ -25,10 +25,11 @@ returns g c =
     let D = m .weighting .denominator in
     let all : c .loop-station .station ≡ suc (m .span) = omega (arith, c .span-station-end .ensures) in
     let is : c .loop-station .found ≡ common-divisor D (suc (m .span)) (m .weighting .weight) =
-        c .loop-station .inv ∙ ap (λ t. common-divisor D t (m .weighting .weight)) all in
+    c .loop-station .inv ∙ ap (λ t. common-divisor D t (m .weighting .weight)) all in
     record {
-        value = is;
-        bounds =
-            (omega (arith, is, common-divisor-positive D (suc (m .span)) (m .weighting .weight) (sound .denominator .least)),
-            omega (arith, is, common-divisor-bounded D (suc (m .span)) (m .weighting .weight) (sound .denominator .least), sound .denominator .most))
-        }
+      value = is;
+      bounds = (
+        omega (arith, is, common-divisor-positive D (suc (m .span)) (m .weighting .weight) (sound .denominator .least)),
+        omega (arith, is, common-divisor-bounded D (suc (m .span)) (m .weighting .weight) (sound .denominator .least), sound .denominator .most),
+      );
+    }

@@ -27,7 +27,7 @@ sub-result c =
     let a : SFits w64 (c .args .left +ℤ c .args .right) = omega (arith, ints, c .pre) in
     let k : c .args .factor < 2 ^ hbits w64 = omega (arith, c .pre) in
     let b : natAbs (pos (c .args .factor) *ℤ (c .args .left +ℤ c .args .right)) ≤ 2 ^ 52 =
-        scaled-bound (c .args .factor) (2 ^ 41) 2048 (c .args .left +ℤ c .args .right) (c .pre .0) (omega (arith, ints, c .pre)) in
+    scaled-bound (c .args .factor) (2 ^ 41) 2048 (c .args .left +ℤ c .args .right) (c .pre .0) (omega (arith, ints, c .pre)) in
     let p : SFits w64 (pos (c .args .factor) *ℤ (c .args .left +ℤ c .args .right)) = omega (arith, ints) in
     simp (toZ-ofZ, toZ-pos) (omega (arith, ints, c .pre))
 
@@ -39,7 +39,7 @@ returns c =
     let a : SFits w64 (c .args .left +ℤ c .args .right) = omega (arith, ints, c .pre) in
     let k : c .args .factor < 2 ^ hbits w64 = omega (arith, c .pre) in
     let b : natAbs (pos (c .args .factor) *ℤ (c .args .left +ℤ c .args .right)) ≤ 2 ^ 52 =
-        scaled-bound (c .args .factor) (2 ^ 41) 2048 (c .args .left +ℤ c .args .right) (c .pre .0) (omega (arith, ints, c .pre)) in
+    scaled-bound (c .args .factor) (2 ^ 41) 2048 (c .args .left +ℤ c .args .right) (c .pre .0) (omega (arith, ints, c .pre)) in
     let p : SFits w64 (pos (c .args .factor) *ℤ (c .args .left +ℤ c .args .right)) = omega (arith, ints) in
     let q : SFits w64 ((pos (c .args .factor) *ℤ (c .args .left +ℤ c .args .right)) -ℤ c .args .coarse) = omega (arith, ints, c .pre) in
     simp (toZ-ofZ, toZ-pos)

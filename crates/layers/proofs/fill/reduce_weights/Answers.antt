@@ -23,7 +23,7 @@ loop-station-again g c =
     let fits : SFits w64 (c .weight .result) = search needs in
     let small : c .args .divisor < 2 ^ hbits w64 = omega (arith, c .pre) in
     let quotient : SFits w64 (quotZ (c .weight .result) (pos (c .args .divisor))) =
-        omega (arith, ints, quotient-bound (c .weight .result) (c .args .divisor) (2 ^ 40) (omega (arith, ints, c .weight .ensures, weight-bound m (g .R·Rule·met .sound (c .args .below .now)) (c .loop-station .station)))) in
+    omega (arith, ints, quotient-bound (c .weight .result) (c .args .divisor) (2 ^ 40) (omega (arith, ints, c .weight .ensures, weight-bound m (g .R·Rule·met .sound (c .args .below .now)) (c .loop-station .station)))) in
     simp (toZ-ofZ, toZ-pos)
     (filled-more (c .loop-station .weights) (c .loop-station .station) (reduce-weight (c .args .divisor) (m .weighting .weight)) (quotZ (c .weight .result) (pos (c .args .divisor)))
     (omega (arith, g .R·Rule·met .sound (c .args .below .now) .span .most, c .span-station-end .ensures))

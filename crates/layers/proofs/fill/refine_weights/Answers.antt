@@ -20,10 +20,16 @@ loop-station-holds g c = filled-none (refine-weight (c .args .factor) (g .R·Rul
 pub combination-requires : need.combination-requires
 combination-requires g c κs =
     let m = g .R·Rule .meaning (c .args .below .now) in
-    let b = weight-bound m (g .R·Rule·met .sound (c .args .below .now)) in
-    (c .pre .0, (omega (arith, ints, c .weight-left .ensures, b (c .loop-station .station)),
-    (omega (arith, ints, c .shifted-weight-right .ensures, shifted-bound (m .weighting .weight) (2 ^ 40) (c .span-span .result) (c .loop-station .station) b),
-    omega (arith, ints, c .doubled-weight .ensures, stretch-bound 2 (2 ^ 40) (m .weighting .weight) (c .loop-station .station) b))))
+    let b = weight-bound m (g .R·Rule·met .sound (c .args .below .now)) in (
+      c .pre .0,
+      (
+        omega (arith, ints, c .weight-left .ensures, b (c .loop-station .station)),
+        (
+          omega (arith, ints, c .shifted-weight-right .ensures, shifted-bound (m .weighting .weight) (2 ^ 40) (c .span-span .result) (c .loop-station .station) b),
+          omega (arith, ints, c .doubled-weight .ensures, stretch-bound 2 (2 ^ 40) (m .weighting .weight) (c .loop-station .station) b),
+        ),
+      ),
+    )
 
 pub loop-station-again : need.loop-station-again
 loop-station-again g c =
@@ -35,9 +41,9 @@ loop-station-again g c =
     let W = m .weighting .weight in
     let s = c .loop-station .station in
     let is : c .combination .result ≡ (pos (c .args .factor) *ℤ (c .weight-left .result +ℤ c .shifted-weight-right .result)) -ℤ c .doubled-weight .result =
-        simp toZ-ofZ at (c .combination .ensures) in
+    simp toZ-ofZ at (c .combination .ensures) in
     let second : c .shifted-weight-right .result ≡ shifted W (m .span) s =
-        c .shifted-weight-right .ensures ∙ ap (λ t. shifted W t s) (c .span-span .ensures) in
+    c .shifted-weight-right .ensures ∙ ap (λ t. shifted W t s) (c .span-span .ensures) in
     simp toZ-ofZ
     (filled-more (c .loop-station .weights) s (refine-weight (c .args .factor) (m .span) W) (c .combination .result) (omega (arith, c .pre, c .span-span .ensures, c .loop-station-test .taken))
     (is ∙ ap (λ t. (pos (c .args .factor) *ℤ (t +ℤ c .shifted-weight-right .result)) -ℤ c .doubled-weight .result) (c .weight-left .ensures) ∙

@@ -11,4 +11,3 @@ use Rattle.layers.proofs.fill.same_weights.Needs as need
 
 pub loop-station-holds : need.loop-station-holds
 loop-station-holds g c = filled-none (g .R·Rule .meaning (c .args .below .now) .weighting .weight)
-

@@ -59,7 +59,7 @@ loop-station-again g c =
     let small : c .args .count < 2 ^ hbits w64 = omega (arith, few) in
     let fits : SFits w64 (c .weight .result) = search needs in
     let product : SFits w64 (pos (c .args .count) *ℤ c .weight .result) =
-        omega (arith, ints, scaled-bound (c .args .count) (2 ^ 40) 1024 (c .weight .result) few (omega (arith, ints, c .weight .ensures, weight-bound m sound (c .loop-station .station)))) in
+    omega (arith, ints, scaled-bound (c .args .count) (2 ^ 40) 1024 (c .weight .result) few (omega (arith, ints, c .weight .ensures, weight-bound m sound (c .loop-station .station)))) in
     simp (toZ-ofZ, toZ-pos)
     (stretched-more (c .loop-station .weights) (c .args .count) (c .loop-station .station) (m .weighting .weight) (pos (c .args .count) *ℤ c .weight .result) (c .pre .0)
     (omega (arith, inside (c .args .count) (c .loop-station .station) (m .span) (omega (arith, c .span-station-end .ensures)) (c .pre .1)))

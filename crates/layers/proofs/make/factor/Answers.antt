@@ -17,8 +17,8 @@ returns-then-degree-lt11 c =
 pub returns-else-degree-lt11 : need.returns-else-degree-lt11
 unfolding factor
 returns-else-degree-lt11 c = record {
-    value =
-        sym
-        (getD-past (2 ∷ 4 ∷ 8 ∷ 16 ∷ 32 ∷ 64 ∷ 128 ∷ 256 ∷ 512 ∷ 1024 ∷ 2048 ∷ []) (c .args .degree) 0 (c .if-degree-lt11 .left));
-    bound = omega arith
-    }
+  value =
+      sym
+      (getD-past (2 ∷ 4 ∷ 8 ∷ 16 ∷ 32 ∷ 64 ∷ 128 ∷ 256 ∷ 512 ∷ 1024 ∷ 2048 ∷ []) (c .args .degree) 0 (c .if-degree-lt11 .left));
+  bound = omega arith;
+}
