@@ -5,9 +5,16 @@ mod rule;
 mod table;
 
 pub use built_in::BuiltIn;
+pub use built_in::BuiltInRule;
 pub use fault::Cause;
+pub use fault::CauseDebug;
+pub use fault::CausePartialEq;
 pub use fault::Fault;
+pub use fault::FaultDebug;
+pub use fault::FaultPartialEq;
 pub use fault::Origin;
+pub use fault::OriginDebug;
+pub use fault::OriginPartialEq;
 pub use rule::Rule;
 pub use table::Table;
 pub use table::TableRule;

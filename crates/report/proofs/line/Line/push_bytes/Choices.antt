@@ -1,0 +1,10 @@
+use mathlib.Core.Path.{_≡_}
+use mathlib.Core.List.{_++_}
+use Prim.Native.Nat.{_+_}
+use lib.ListN.{take}
+use Rattle.report.specs.Lines.{text}
+use Rattle.report.proofs.line.Line.push_bytes.Given as given
+
+abbrev pub Inv-loop-byte : given.InvT-loop-byte
+Inv-loop-byte l =
+    (text (l .self) ≡ text (l .entry .self) ++ take (l .byte-index) (l .bytes)) × (l .self .len ≡ l .entry .self .len + l .byte-index)
