@@ -10,6 +10,7 @@ use Rattle.std.specs.declared.result.Result.{Result}
 use Rattle.std.specs.declared.result.Result.the-variants.{Ok, Err}
 use Rattle.algebra.specs.Divisors.{common-divisor}
 use Rattle.algebra.specs.Weights.{panel-weight, stretch-weight, mirror-weight, refine-weight, reduce-weight}
+use Rattle.rules.specs.Faults.{carried}
 use Rattle.rules.specs.Meaning.{Meaning, Weighting, telling}
 use Rattle.rules.specs.declared.fault.Fault.{Fault}
 use Rattle.rules.specs.declared.fault.Cause.{Cause}
@@ -105,15 +106,10 @@ admission l n c d p = accepted-or (oversize l n c d) (Ok tt) (λ e. Err (at-plac
 abbrev pub making : Layer → ℕ → Meaning → Result Meaning Fault
 making l p r = accepted-or (refusal l r) (Ok (made l r)) (λ e. Err (at-place p e))
 
--- the rule if there is one, through f
-abbrev pub and-then : Result Meaning Fault → (Meaning → Result Meaning Fault) → Result Meaning Fault
-and-then (Ok m) f = f m
-and-then (Err e) f = Err e
-
 -- what the making of a list of layers replies, the first at place p
 abbrev pub piling : List Layer → ℕ → Meaning → Result Meaning Fault
 piling [] p r = Ok r
-piling (l ∷ ls) p r = and-then (making l p r) (λ m. piling ls (p + 1) m)
+piling (l ∷ ls) p r = carried (making l p r) (λ m. piling ls (p + 1) m)
 
 -- the rule with a list of layers on it, each that is refused left out
 abbrev pub piled : List Layer → Meaning → Meaning

@@ -1,6 +1,9 @@
--- Which number and which name a report prints for a fault.
+-- Which number and which name a report prints for a fault, and how a fault is carried.
 use mathlib.Core.List.{List, [], _∷_}
 use Prim.Native.Nat.{ℕ}
+use Rattle.std.specs.declared.result.Result.{Result}
+use Rattle.std.specs.declared.result.Result.the-variants.{Ok, Err}
+use Rattle.rules.specs.declared.fault.Fault.{Fault}
 use Rattle.rules.specs.declared.fault.Cause.{Cause}
 use Rattle.rules.specs.declared.fault.Cause.the-variants.{ListLength, DenominatorRange, WeightSum, WrittenDegree, NotExact, CountZero, SpanLimit, DegreeLimit, SizeLimit, CoefficientCount, ReadingRange, CountRange, StationOrder, ByteLength, ToleranceRange, NoComponent, ForceComponent, StationBeyondSpan, Published, NothingToStrike, EmptyStation, SpansDiffer, BufferShort, NotOffered}
 use Rattle.rules.specs.declared.fault.Origin.{Origin}
@@ -41,3 +44,8 @@ name-of Run = 82 ∷ 85 ∷ 78 ∷ []
 name-of Other = 79 ∷ 84 ∷ 72 ∷ 69 ∷ 82 ∷ []
 name-of Order = 79 ∷ 82 ∷ 68 ∷ 69 ∷ 82 ∷ []
 name-of Output = 79 ∷ 85 ∷ 84 ∷ 80 ∷ 85 ∷ 84 ∷ []
+
+-- the fault as it is, or what f makes of the value
+abbrev pub carried : {A B : Type 0} → Result A Fault → (A → Result B Fault) → Result B Fault
+carried (Ok a) f = f a
+carried (Err e) f = Err e

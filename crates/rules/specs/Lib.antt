@@ -2,3 +2,4 @@ pub mod BuiltIn
 pub mod Faults
 pub mod Meaning
 pub mod Tables
+pub mod Written

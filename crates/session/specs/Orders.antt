@@ -7,6 +7,7 @@ use lib.ListN.{getD, length, replicate}
 use Rattle.std.specs.declared.result.Result.{Result}
 use Rattle.std.specs.declared.result.Result.the-variants.{Ok, Err}
 use Rattle.rules.specs.BuiltIn.{meaning-of-row, of-code, row-of}
+use Rattle.rules.specs.Faults.{carried}
 use Rattle.rules.specs.Meaning.{Meaning}
 use Rattle.rules.specs.declared.built_in.BuiltIn.{BuiltIn}
 use Rattle.rules.specs.declared.fault.Fault.{Fault}
@@ -42,15 +43,11 @@ byte-at bs i = getD bs i 0
 abbrev pub pair-at : List ℕ → ℕ → ℕ
 pair-at bs i = 256 * byte-at bs i + byte-at bs (i + 1)
 
-abbrev pub with-base : Result BuiltIn Fault → (BuiltIn → Result Parts Fault) → Result Parts Fault
-with-base (Ok b) f = f b
-with-base (Err e) f = Err e
-
 -- 14 unless there are six bytes, then 24 for the base code at place 0 and for the refinements at place 1
 abbrev pub order-of : List ℕ → Result Parts Fault
 order-of bs =
     cond (eqb (length bs) 6)
-    (with-base (of-code (byte-at bs 0))
+    (carried (of-code (byte-at bs 0))
     (λ b.
     cond (leb (byte-at bs 1) 5)
     (Ok (record { base = b; refinements = byte-at bs 1; stretch = pair-at bs 2; panels = pair-at bs 4 }))

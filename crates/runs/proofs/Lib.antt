@@ -1,0 +1,5 @@
+pub mod Changes
+pub mod Comparison
+pub mod Loads
+pub mod Sizes
+pub mod Terms

@@ -1,0 +1,16 @@
+// Runs: readings gathered for a rule, the weighted sum that they give with its band, and the verdict on two of them.
+mod band;
+mod band_end;
+mod call;
+mod estimate;
+mod held;
+mod run;
+mod sum;
+
+pub use band::Band;
+pub use call::Call;
+pub use call::Reply;
+pub use estimate::Estimate;
+pub use run::Run;
+pub use run::State;
+pub use sum::total;
