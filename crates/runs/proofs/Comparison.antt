@@ -87,10 +87,13 @@ module _ (a c : ℤ) (b d : ℕ) (hb : 1 ≤ b) (hd : 1 ≤ d) where
     where
       x : ℤ
       x = divEuclid a (pos b)
+
       y : ℤ
       y = divEuclid c (pos d)
+
       u : ℕ
       u = natAbs (remEuclid a (pos b)) * d
+
       w : ℕ
       w = natAbs (remEuclid c (pos d)) * b
 

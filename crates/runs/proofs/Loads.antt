@@ -2,7 +2,7 @@
 use mathlib.Core.Path.{_≡_, refl, sym, ap, _∙_}
 use mathlib.Core.Bool.{Bool, true, cond}
 use mathlib.Core.Logic.{⊎-elim}
-use Prim.Native.Nat.{ℕ, _+_, _≤_, _<_, max}
+use Prim.Native.Nat.{ℕ, _+_, _≤_, _<_}
 use native.Mathlib.Omega.{arith}
 use lib.Dec.{leb, ltb, eqb}
 use lib.IntN.{ℤ}
@@ -11,7 +11,7 @@ use Rattle.std.proofs.shelf.Ways.{tells}
 use Rattle.std.specs.declared.option.Option.{Option}
 use Rattle.std.specs.declared.option.Option.the-variants.{Some, None}
 use Rattle.sources.specs.Readings.{Readings}
-use Rattle.runs.specs.Changes.{with-value, with-tolerance, or-kept, with-source}
+use Rattle.runs.specs.Changes.{with-value, or-kept, with-readings}
 use Rattle.runs.proofs.Changes.{same-readings}
 
 -- the readings of a source at the stations below n
@@ -56,12 +56,11 @@ module _ (source r : Readings) where
         (λ e. cond-true (eqb s n) (Some v) _ (eq-eqb s n e) ∙ sym (here s e ∙ ap (λ (o : Option ℤ). or-kept o (r .reading s)) (ap (source .reading) e ∙ some)))
         (λ d. cond-false (eqb s n) (Some v) _ (ne-eqb s n d) ∙ other s d) (cases-eq s n))
 
-  -- all stations to L, and the tolerance
-  pub taken-all : (n L e : ℕ) → n ≡ L + 1 → e ≡ max (r .tolerance) (source .tolerance) → with-tolerance e (taken n source r) ≡ with-source L source r
-  taken-all n L e en ee =
-      same-readings (taken n source r .reading) (with-source L source r .reading) e
+  -- all stations to L
+  pub taken-all : (n L : ℕ) → n ≡ L + 1 → taken n source r ≡ with-readings L source r
+  taken-all n L en =
+      same-readings (taken n source r .reading) (with-readings L source r .reading) (r .tolerance)
       (λ s. ap (λ (b : Bool). cond b (or-kept (source .reading s) (r .reading s)) (r .reading s)) (within s))
-      ∙ ap (λ (k : ℕ). record { reading = with-source L source r .reading; tolerance = k }) ee
     where
       within : (s : ℕ) → ltb s n ≡ leb s L
       within s = grind (arith, tells)

@@ -37,7 +37,7 @@ sum-bound m r h k n l =
     let f : ℕ → ℤ = λ s. W s *ℤ value-of (r .reading s) in
     let term : (s : ℕ) → s < n → abs (f s) ≤ℤ (pos 1048576 *ℤ abs (W s)) = (λ s _. term-bound (W s) (value-of (r .reading s)) (value-bound (r .reading s) (k .readings s))) in
     let all : abs (sum n f) ≤ℤ (pos 1048576 *ℤ sum n (λ s. abs (W s))) =
-      abs-sum n f ≤∙ sum-le n (λ s. abs (f s)) (λ s. pos 1048576 *ℤ abs (W s)) term ≤∙ ≤ℤ-of-eq (sym (sum-scale (pos 1048576) n (λ s. abs (W s)))) in
+    abs-sum n f ≤∙ sum-le n (λ s. abs (f s)) (λ s. pos 1048576 *ℤ abs (W s)) term ≤∙ ≤ℤ-of-eq (sym (sum-scale (pos 1048576) n (λ s. abs (W s)))) in
     omega (arith, ints, le-out _ _ all, size-bound m h n l)
   where
     term-bound : (w v : ℤ) → natAbs v ≤ 1048576 → abs (w *ℤ v) ≤ℤ (pos 1048576 *ℤ abs w)

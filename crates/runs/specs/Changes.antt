@@ -28,9 +28,13 @@ abbrev pub or-kept : Option ℤ → Option ℤ → Option ℤ
 or-kept (Some v) kept = Some v
 or-kept None kept = kept
 
--- each reading that a source has at the stations 0 to L, and the greater tolerance
-abbrev pub with-source : ℕ → Readings → Readings → Readings
-with-source L source r = record {
+-- each reading that a source has at the stations 0 to L
+abbrev pub with-readings : ℕ → Readings → Readings → Readings
+with-readings L source r = record {
   reading = λ s. cond (leb s L) (or-kept (source .reading s) (r .reading s)) (r .reading s);
-  tolerance = max (r .tolerance) (source .tolerance);
+  tolerance = r .tolerance;
 }
+
+-- the same, with the greater tolerance
+abbrev pub with-source : ℕ → Readings → Readings → Readings
+with-source L source r = with-tolerance (max (r .tolerance) (source .tolerance)) (with-readings L source r)

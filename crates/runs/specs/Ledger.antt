@@ -2,7 +2,7 @@
 use mathlib.Core.Bool.{Bool, true, false, cond, not, _&&_}
 use Prim.Native.Nat.{ℕ}
 use lib.Dec.{ltb}
-use lib.IntN.{ℤ, pos, _*ℤ_}
+use lib.IntN.{ℤ}
 use Rattle.std.specs.Options.{isSome}
 use Rattle.std.specs.declared.option.Option.{Option}
 use Rattle.std.specs.declared.option.Option.the-variants.{Some, None}
@@ -16,7 +16,7 @@ use Rattle.runs.specs.declared.call.Reply.{Reply}
 use Rattle.runs.specs.declared.call.Reply.the-variants.{Done, Result as Told, Refused}
 use Rattle.runs.specs.declared.estimate.Estimate.{Estimate}
 use Rattle.runs.specs.Changes.{nothing, with-value, without-value, with-tolerance, with-source}
-use Rattle.runs.specs.Totals.{weighted-sum, absolute-sum, lowest-empty, fault-at, empty-station, given}
+use Rattle.runs.specs.Totals.{lowest-empty, sum-of, fault-at, empty-station, given}
 
 -- what is held, and whether it is published
 pub record Ledger : Type 0 where
@@ -87,21 +87,21 @@ abbrev pub step : Meaning → Ledger → Entry → Ledger
 step m l e = unless-refused (refusal m l e) l (changed m l e)
 
 -- the answer to a change
-abbrev pub accepted : Meaning → Ledger → Entry → Result (Unit {0}) Fault
-accepted m l e = given (refusal m l e) tt
+abbrev pub outcome : Meaning → Ledger → Entry → Result (Unit {0}) Fault
+outcome m l e = given (refusal m l e) tt
 
 -- both, where the run is known not to be published
 abbrev pub own-step : Meaning → Ledger → Entry → Ledger
 own-step m l e = unless-refused (own-refusal m (l .readings) e) l (changed m l e)
 
-abbrev pub own-accepted : Meaning → Ledger → Entry → Result (Unit {0}) Fault
-own-accepted m l e = given (own-refusal m (l .readings) e) tt
+abbrev pub own-outcome : Meaning → Ledger → Entry → Result (Unit {0}) Fault
+own-outcome m l e = given (own-refusal m (l .readings) e) tt
 
--- the integral of the readings, its radius and the degree of the rule
+-- the integral of the readings is their weighted sum over the denominator; with it go its radius and the degree of the rule
 abbrev pub estimate-of : Meaning → Readings → Estimate
 estimate-of m r = record {
-  value = (weighted-sum (m .weighting) r, m .weighting .denominator);
-  radius = pos (r .tolerance) *ℤ absolute-sum (m .weighting);
+  value = sum-of (m .weighting) r .value;
+  radius = sum-of (m .weighting) r .radius;
   degree = m .degree;
 }
 

@@ -5,3 +5,4 @@ pub mod Holding
 pub mod Ledger
 pub mod Recorded
 pub mod Totals
+pub mod Verdicts

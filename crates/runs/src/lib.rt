@@ -6,11 +6,12 @@ mod estimate;
 mod held;
 mod run;
 mod sum;
+mod verdict;
 
 pub use band::Band;
 pub use call::Call;
 pub use call::Reply;
 pub use estimate::Estimate;
 pub use run::Run;
-pub use run::State;
 pub use sum::total;
+pub use verdict::Verdict;

@@ -2,7 +2,7 @@
 ghost use mathlib.Core.Path.{_≡_};
 ghost use Prim.Native.Nat.{_≤_};
 ghost use lib.IntN.{natAbs};
-ghost use Rattle.runs.specs.Changes.{nothing, with-value, without-value, with-tolerance, with-source};
+ghost use Rattle.runs.specs.Changes.{nothing, with-value, without-value, with-tolerance, with-readings};
 ghost use Rattle.runs.specs.Holding.{readings-held};
 use super::Held;
 use sources::Row;
@@ -42,16 +42,15 @@ impl Held {
         self.tolerance = tolerance;
     }
 
-    // Takes over each reading that a source has at the stations 0 to `last`, and the greater tolerance.
-    pub(crate) fn load<S: Source>(&mut self, source: &S, last: usize)
+    // Takes over each reading that a source has at the stations 0 to `last`.
+    pub(crate) fn take_readings<S: Source>(&mut self, source: &S, last: usize)
         requires { ⌜ last ≤ 1024 ⌝ }
-        ensures { λ _. ⌜ readings-held (now (self .exit)) ≡ with-source last (meaning (now (source .entry))) (readings-held (now (self .entry))) ⌝ }
+        ensures { λ _. ⌜ readings-held (now (self .exit)) ≡ with-readings last (meaning (now (source .entry))) (readings-held (now (self .entry))) ⌝ }
     {
         for station in 0..last + 1 {
             if let Some(value) = source.reading(station) {
                 self.put(station, value);
             }
         }
-        self.set_tolerance(self.tolerance.max(source.tolerance()));
     }
 }

@@ -2,7 +2,7 @@
 ghost use mathlib.Core.Bool.{cond};
 ghost use mathlib.Core.Path.{_≡_};
 ghost use Rattle.std.specs.declared.option.Option.the-variants.{Some, None};
-ghost use Rattle.runs.specs.Ledger.{entering, striking, declaring, loading, publishing, already-published, accepted, own-accepted, own-step, step};
+ghost use Rattle.runs.specs.Ledger.{entering, striking, declaring, loading, publishing, already-published, outcome, own-outcome, own-step, step};
 ghost use Rattle.runs.specs.Recorded.{ledger-of, is-published};
 ghost use Rattle.runs.specs.Totals.{given};
 use super::Run;
@@ -28,7 +28,7 @@ pub(crate) fn published() -> Fault
 impl<R: Rule> Run<R> {
     // Writes a reading over any earlier one.
     pub(crate) fn write(&mut self, station: usize, value: i64) -> Result<(), Fault>
-        ensures reply { λ r. ⌜ r ≡ own-accepted (R·Rule .meaning (now (self .entry) .rule)) (ledger-of (now (self .entry))) (entering station value) ⌝ }
+        ensures reply { λ r. ⌜ r ≡ own-outcome (R·Rule .meaning (now (self .entry) .rule)) (ledger-of (now (self .entry))) (entering station value) ⌝ }
         ensures ledger { λ _. ⌜ ledger-of (now (self .exit)) ≡ own-step (R·Rule .meaning (now (self .entry) .rule)) (ledger-of (now (self .entry))) (entering station value) ⌝ }
         ensures rule { λ _. ⌜ now (self .exit) .rule ≡ now (self .entry) .rule ⌝ }
     {
@@ -44,7 +44,7 @@ impl<R: Rule> Run<R> {
 
     // Removes a reading.
     pub(crate) fn erase(&mut self, station: usize) -> Result<(), Fault>
-        ensures reply { λ r. ⌜ r ≡ own-accepted (R·Rule .meaning (now (self .entry) .rule)) (ledger-of (now (self .entry))) (striking station) ⌝ }
+        ensures reply { λ r. ⌜ r ≡ own-outcome (R·Rule .meaning (now (self .entry) .rule)) (ledger-of (now (self .entry))) (striking station) ⌝ }
         ensures ledger { λ _. ⌜ ledger-of (now (self .exit)) ≡ own-step (R·Rule .meaning (now (self .entry) .rule)) (ledger-of (now (self .entry))) (striking station) ⌝ }
         ensures rule { λ _. ⌜ now (self .exit) .rule ≡ now (self .entry) .rule ⌝ }
     {
@@ -60,7 +60,7 @@ impl<R: Rule> Run<R> {
 
     // Sets the tolerance.
     pub(crate) fn set_tolerance(&mut self, tolerance: u64) -> Result<(), Fault>
-        ensures reply { λ r. ⌜ r ≡ own-accepted (R·Rule .meaning (now (self .entry) .rule)) (ledger-of (now (self .entry))) (declaring tolerance) ⌝ }
+        ensures reply { λ r. ⌜ r ≡ own-outcome (R·Rule .meaning (now (self .entry) .rule)) (ledger-of (now (self .entry))) (declaring tolerance) ⌝ }
         ensures ledger { λ _. ⌜ ledger-of (now (self .exit)) ≡ own-step (R·Rule .meaning (now (self .entry) .rule)) (ledger-of (now (self .entry))) (declaring tolerance) ⌝ }
         ensures rule { λ _. ⌜ now (self .exit) .rule ≡ now (self .entry) .rule ⌝ }
     {
@@ -73,18 +73,20 @@ impl<R: Rule> Run<R> {
 
     // Takes over the readings of a source within the span, and the greater tolerance.
     pub(crate) fn take_over<S: Source>(&mut self, source: &S) -> Result<(), Fault>
-        ensures reply { λ r. ⌜ r ≡ own-accepted (R·Rule .meaning (now (self .entry) .rule)) (ledger-of (now (self .entry))) (loading (S·Source .meaning (now (source .entry)))) ⌝ }
+        ensures reply { λ r. ⌜ r ≡ own-outcome (R·Rule .meaning (now (self .entry) .rule)) (ledger-of (now (self .entry))) (loading (S·Source .meaning (now (source .entry)))) ⌝ }
         ensures ledger { λ _. ⌜ ledger-of (now (self .exit)) ≡ own-step (R·Rule .meaning (now (self .entry) .rule)) (ledger-of (now (self .entry))) (loading (S·Source .meaning (now (source .entry)))) ⌝ }
         ensures rule { λ _. ⌜ now (self .exit) .rule ≡ now (self .entry) .rule ⌝ }
     {
         let last = self.rule.span();
-        self.held.load(source, last);
+        self.held.take_readings(source, last);
+        let greater = self.held.tolerance().max(source.tolerance());
+        self.held.set_tolerance(greater);
         Ok(())
     }
 
     // Closes a run that has a result.
     pub(crate) fn close(&mut self) -> Result<(), Fault>
-        ensures reply { λ r. ⌜ r ≡ own-accepted (R·Rule .meaning (now (self .entry) .rule)) (ledger-of (now (self .entry))) publishing ⌝ }
+        ensures reply { λ r. ⌜ r ≡ own-outcome (R·Rule .meaning (now (self .entry) .rule)) (ledger-of (now (self .entry))) publishing ⌝ }
         ensures ledger { λ _. ⌜ ledger-of (now (self .exit)) ≡ own-step (R·Rule .meaning (now (self .entry) .rule)) (ledger-of (now (self .entry))) publishing ⌝ }
         ensures rule { λ _. ⌜ now (self .exit) .rule ≡ now (self .entry) .rule ⌝ }
     {
@@ -108,7 +110,7 @@ impl<R: Rule> Run<R> {
 impl<R: Rule> Run<R> {
     // Enters a reading, over any earlier one at the station.
     pub fn enter(&mut self, station: usize, value: i64) -> Result<(), Fault>
-        ensures reply { λ r. ⌜ r ≡ accepted (R·Rule .meaning (now (self .entry) .rule)) (ledger-of (now (self .entry))) (entering station value) ⌝ }
+        ensures reply { λ r. ⌜ r ≡ outcome (R·Rule .meaning (now (self .entry) .rule)) (ledger-of (now (self .entry))) (entering station value) ⌝ }
         ensures ledger { λ _. ⌜ ledger-of (now (self .exit)) ≡ step (R·Rule .meaning (now (self .entry) .rule)) (ledger-of (now (self .entry))) (entering station value) ⌝ }
         ensures rule { λ _. ⌜ now (self .exit) .rule ≡ now (self .entry) .rule ⌝ }
     {
@@ -118,7 +120,7 @@ impl<R: Rule> Run<R> {
 
     // Strikes the reading of a station.
     pub fn strike(&mut self, station: usize) -> Result<(), Fault>
-        ensures reply { λ r. ⌜ r ≡ accepted (R·Rule .meaning (now (self .entry) .rule)) (ledger-of (now (self .entry))) (striking station) ⌝ }
+        ensures reply { λ r. ⌜ r ≡ outcome (R·Rule .meaning (now (self .entry) .rule)) (ledger-of (now (self .entry))) (striking station) ⌝ }
         ensures ledger { λ _. ⌜ ledger-of (now (self .exit)) ≡ step (R·Rule .meaning (now (self .entry) .rule)) (ledger-of (now (self .entry))) (striking station) ⌝ }
         ensures rule { λ _. ⌜ now (self .exit) .rule ≡ now (self .entry) .rule ⌝ }
     {
@@ -128,7 +130,7 @@ impl<R: Rule> Run<R> {
 
     // Declares the tolerance of all readings.
     pub fn declare(&mut self, tolerance: u64) -> Result<(), Fault>
-        ensures reply { λ r. ⌜ r ≡ accepted (R·Rule .meaning (now (self .entry) .rule)) (ledger-of (now (self .entry))) (declaring tolerance) ⌝ }
+        ensures reply { λ r. ⌜ r ≡ outcome (R·Rule .meaning (now (self .entry) .rule)) (ledger-of (now (self .entry))) (declaring tolerance) ⌝ }
         ensures ledger { λ _. ⌜ ledger-of (now (self .exit)) ≡ step (R·Rule .meaning (now (self .entry) .rule)) (ledger-of (now (self .entry))) (declaring tolerance) ⌝ }
         ensures rule { λ _. ⌜ now (self .exit) .rule ≡ now (self .entry) .rule ⌝ }
     {
@@ -138,7 +140,7 @@ impl<R: Rule> Run<R> {
 
     // Loads the readings of a source within the span over those that are there; the greater tolerance stays.
     pub fn load<S: Source>(&mut self, source: &S) -> Result<(), Fault>
-        ensures reply { λ r. ⌜ r ≡ accepted (R·Rule .meaning (now (self .entry) .rule)) (ledger-of (now (self .entry))) (loading (S·Source .meaning (now (source .entry)))) ⌝ }
+        ensures reply { λ r. ⌜ r ≡ outcome (R·Rule .meaning (now (self .entry) .rule)) (ledger-of (now (self .entry))) (loading (S·Source .meaning (now (source .entry)))) ⌝ }
         ensures ledger { λ _. ⌜ ledger-of (now (self .exit)) ≡ step (R·Rule .meaning (now (self .entry) .rule)) (ledger-of (now (self .entry))) (loading (S·Source .meaning (now (source .entry)))) ⌝ }
         ensures rule { λ _. ⌜ now (self .exit) .rule ≡ now (self .entry) .rule ⌝ }
     {
@@ -148,7 +150,7 @@ impl<R: Rule> Run<R> {
 
     // Publishes the run, which must have a result. It takes no change from then on.
     pub fn publish(&mut self) -> Result<(), Fault>
-        ensures reply { λ r. ⌜ r ≡ accepted (R·Rule .meaning (now (self .entry) .rule)) (ledger-of (now (self .entry))) publishing ⌝ }
+        ensures reply { λ r. ⌜ r ≡ outcome (R·Rule .meaning (now (self .entry) .rule)) (ledger-of (now (self .entry))) publishing ⌝ }
         ensures ledger { λ _. ⌜ ledger-of (now (self .exit)) ≡ step (R·Rule .meaning (now (self .entry) .rule)) (ledger-of (now (self .entry))) publishing ⌝ }
         ensures rule { λ _. ⌜ now (self .exit) .rule ≡ now (self .entry) .rule ⌝ }
     {

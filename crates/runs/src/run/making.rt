@@ -36,4 +36,11 @@ impl<R: Rule> Run<R> {
             degree: self.rule.degree(),
         })
     }
+
+    // The last station of the run.
+    pub fn span(&self) -> usize
+        ensures { λ r. ⌜ r ≡ meaning (now (self .entry) .rule) .span ⌝ }
+    {
+        self.rule.span()
+    }
 }

@@ -42,9 +42,14 @@ impl<R: Rule> Run<R> {
         match (self.state, call) {
             (_, Call::Result) => after_question(self.result()),
             (State::Published, _) => Reply::Refused(published()),
-            (State::Gathering, Call::Enter { station, value }) => after_change(self.write(*station, *value)),
+            (State::Gathering, Call::Enter { station, value }) => after_change(self.write(
+                *station,
+                *value,
+            )),
             (State::Gathering, Call::Strike { station }) => after_change(self.erase(*station)),
-            (State::Gathering, Call::Declare { tolerance }) => after_change(self.set_tolerance(*tolerance)),
+            (State::Gathering, Call::Declare { tolerance }) => after_change(self.set_tolerance(
+                *tolerance,
+            )),
             (State::Gathering, Call::Load(source)) => after_change(self.take_over(source)),
             (State::Gathering, Call::Publish) => after_change(self.close()),
         }

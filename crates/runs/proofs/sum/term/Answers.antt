@@ -23,5 +23,5 @@ returns c =
     let w : SFits w64 (c .args .weight) = c .fits .weight in
     let f : SFits w64 v = search needs in
     let p : SFits w64 (c .args .weight *ℤ v) =
-      omega (arith, ints, product-bound (2 ^ 40) (2 ^ 20) (c .args .weight) v (c .pre .0) (c .pre .1 v (c .in-Continue-reading .was tt))) in
+    omega (arith, ints, product-bound (2 ^ 40) (2 ^ 20) (c .args .weight) v (c .pre .0) (c .pre .1 v (c .in-Continue-reading .was tt))) in
     simp (toZ-ofZ, c .in-Continue-reading .was tt)

@@ -41,9 +41,9 @@ returns-in-rest g c =
     let n = c .loop-station .station in
     let fits : SFits w64 (c .weight-weight .result) = search needs in
     let missing = station-missing (m .weighting .weight) (r .reading) n _ (c .reading .result)
-      (toZ-ofZ w64 (c .weight-weight .result) fits ∙ c .weight-weight .ensures) (c .reading .ensures) (c .in-rest .ensures tt) in
+    (toZ-ofZ w64 (c .weight-weight .result) fits ∙ c .weight-weight .ensures) (c .reading .ensures) (c .in-rest .ensures tt) in
     let found = first-found (λ s. lacks (m .weighting .weight s) (r .reading s)) n (m .weighting .stations) (c .loop-station .inv .0) missing
-      (omega (arith, c .loop-station-test .taken, c .span-station-end .ensures, g .R·Rule·met .sound (c .args .rule .now) .span .stations)) in
+    (omega (arith, c .loop-station-test .taken, c .span-station-end .ensures, g .R·Rule·met .sound (c .args .rule .now) .span .stations)) in
     ap Err (c .fault .ensures) ∙ sym (ap (λ (o : Option ℕ). given (empty-station Run o) (sum-of (m .weighting) r)) found)
 
 pub add-sum : need.add-sum
@@ -52,9 +52,9 @@ add-sum g c =
     let weight : SFits w64 (c .weight-weight .result) = search needs in
     let fits : SFits w64 (c .in-Some .term) = search needs in
     let step = sum-step (g .R·Rule .meaning (c .args .rule .now)) sound (c .loop-station .station)
-      (omega (arith, c .loop-station-test .taken, c .span-station-end .ensures, sound .span .stations)) _ (toZ-ofZ w64 (c .weight-weight .result) weight ∙ c .weight-weight .ensures)
-      (g .S·Source .meaning (c .args .source .now)) (g .S·Source·met .sound (c .args .source .now))
-      (c .loop-station .sum) (c .in-Some .term) (c .reading .result) (sym (c .loop-station .sum-is) ∙ c .loop-station .inv .1) (c .reading .ensures) (c .in-Some .ensures tt) in
+    (omega (arith, c .loop-station-test .taken, c .span-station-end .ensures, sound .span .stations)) _ (toZ-ofZ w64 (c .weight-weight .result) weight ∙ c .weight-weight .ensures)
+    (g .S·Source .meaning (c .args .source .now)) (g .S·Source·met .sound (c .args .source .now))
+    (c .loop-station .sum) (c .in-Some .term) (c .reading .result) (sym (c .loop-station .sum-is) ∙ c .loop-station .inv .1) (c .reading .ensures) (c .in-Some .ensures tt) in
     simp (toZ-ofZ, c .loop-station .sum-is) (omega (arith, ints, step .2))
 
 pub abs-size-requires : need.abs-size-requires
@@ -69,8 +69,8 @@ add-size g c =
     let weight : SFits w64 (c .weight-weight .result) = search needs in
     let fits : SFits w64 (c .abs-size .result) = search needs in
     let step = size-step (g .R·Rule .meaning (c .args .rule .now)) sound (c .loop-station .station)
-      (omega (arith, c .loop-station-test .taken, c .span-station-end .ensures, sound .span .stations)) _ (toZ-ofZ w64 (c .weight-weight .result) weight ∙ c .weight-weight .ensures)
-      (c .loop-station .size) (c .abs-size .result) (sym (c .loop-station .size-is) ∙ c .loop-station .inv .2) (c .abs-size .ensures .value) in
+    (omega (arith, c .loop-station-test .taken, c .span-station-end .ensures, sound .span .stations)) _ (toZ-ofZ w64 (c .weight-weight .result) weight ∙ c .weight-weight .ensures)
+    (c .loop-station .size) (c .abs-size .result) (sym (c .loop-station .size-is) ∙ c .loop-station .inv .2) (c .abs-size .ensures .value) in
     simp (toZ-ofZ, c .loop-station .size-is) (omega (arith, ints, step .1))
 
 pub loop-station-again : need.loop-station-again
@@ -83,14 +83,16 @@ loop-station-again g c =
     let within : n < m .weighting .stations = omega (arith, c .loop-station-test .taken, c .span-station-end .ensures, sound .span .stations) in
     let is = toZ-ofZ w64 (c .weight-weight .result) weight ∙ c .weight-weight .ensures in
     let added = sum-step m sound n within _ is r (g .S·Source·met .sound (c .args .source .now))
-      (c .loop-station .sum) (c .in-Some .term) (c .reading .result) (sym (c .loop-station .sum-is) ∙ c .loop-station .inv .1) (c .reading .ensures) (c .in-Some .ensures tt) in
+    (c .loop-station .sum) (c .in-Some .term) (c .reading .result) (sym (c .loop-station .sum-is) ∙ c .loop-station .inv .1) (c .reading .ensures) (c .in-Some .ensures tt) in
     let sized = size-step m sound n within _ is (c .loop-station .size) (c .abs-size .result) (sym (c .loop-station .size-is) ∙ c .loop-station .inv .2) (c .abs-size .ensures .value) in
     let a : SFits w64 (c .in-Some .term) = search needs in
     let b : SFits w64 (c .abs-size .result) = search needs in
     let e : SFits w64 (c .loop-station .sum +ℤ c .in-Some .term) = omega (arith, ints, added .2) in
-    let f : SFits w64 (c .loop-station .size +ℤ c .abs-size .result) = omega (arith, ints, sized .1) in
-    (first-more (λ s. lacks (m .weighting .weight s) (r .reading s)) n (c .loop-station .inv .0) (added .0),
-    simp (toZ-ofZ, c .loop-station .sum-is) (added .1), simp (toZ-ofZ, c .loop-station .size-is) (sized .0))
+    let f : SFits w64 (c .loop-station .size +ℤ c .abs-size .result) = omega (arith, ints, sized .1) in (
+      first-more (λ s. lacks (m .weighting .weight s) (r .reading s)) n (c .loop-station .inv .0) (added .0),
+      simp (toZ-ofZ, c .loop-station .sum-is) (added .1),
+      simp (toZ-ofZ, c .loop-station .size-is) (sized .0),
+    )
 
 pub mul-result : need.mul-result
 mul-result g c =
@@ -109,7 +111,7 @@ returns g c =
     let small : natAbs (c .loop-station .size) ≤ 2 ^ 40 = omega (arith, ap natAbs (sym (c .loop-station .size-is) ∙ c .loop-station .inv .2), size-bound m sound (c .loop-station .station) (omega (arith, c .span-station-end .ensures, sound .span .stations))) in
     let half : c .tolerance .result < 2 ^ hbits w64 = omega (arith, c .tolerance .ensures, few) in
     let fits : SFits w64 (pos (c .tolerance .result) *ℤ c .loop-station .size) =
-      omega (arith, ints, product-bound (2 ^ 20) (2 ^ 40) (pos (c .tolerance .result)) (c .loop-station .size) (omega (arith, c .tolerance .ensures, few)) small) in
+    omega (arith, ints, product-bound (2 ^ 20) (2 ^ 40) (pos (c .tolerance .result)) (c .loop-station .size) (omega (arith, c .tolerance .ensures, few)) small) in
     let all : c .loop-station .station ≡ m .weighting .stations = omega (arith, c .loop-station-test .left, c .span-station-end .ensures, sound .span .stations) in
     simp (toZ-ofZ, toZ-pos, c .loop-station .sum-is, c .loop-station .size-is)
     (total-there m r (c .loop-station .station) (c .loop-station .sum) (c .loop-station .size) (c .denominator .result) (c .tolerance .result) all (c .loop-station .inv .0)

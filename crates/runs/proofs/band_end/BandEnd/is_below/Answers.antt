@@ -19,7 +19,7 @@ returns-then-whole-other-whole c =
     let first : SFits w64 (c .floor-whole .result) = search needs in
     let second : SFits w64 (c .floor-other-whole .result) = search needs in
     let differ : divEuclid (a .numerator) (pos (a .denominator)) ≢ divEuclid (b .numerator) (pos (b .denominator)) =
-      (λ e. c .if-whole-other-whole .taken (ap (ofZ w64) (c .floor-whole .ensures ∙ e ∙ sym (c .floor-other-whole .ensures)))) in
+    (λ e. c .if-whole-other-whole .taken (ap (ofZ w64) (c .floor-whole .ensures ∙ e ∙ sym (c .floor-other-whole .ensures)))) in
     ap₂ ltZ (toZ-ofZ w64 (c .floor-whole .result) first ∙ c .floor-whole .ensures) (toZ-ofZ w64 (c .floor-other-whole .result) second ∙ c .floor-other-whole .ensures)
     ∙ by-wholes (a .numerator) (b .numerator) (a .denominator) (b .denominator) (a .«denominator_least») (b .«denominator_least») differ
 
@@ -30,6 +30,6 @@ returns-else-whole-other-whole c =
     let first : SFits w64 (c .floor-whole .result) = search needs in
     let second : SFits w64 (c .floor-other-whole .result) = search needs in
     let same : divEuclid (a .numerator) (pos (a .denominator)) ≡ divEuclid (b .numerator) (pos (b .denominator)) =
-      sym (toZ-ofZ w64 (c .floor-whole .result) first ∙ c .floor-whole .ensures) ∙ ap (toZ w64) (c .if-whole-other-whole .left) ∙ toZ-ofZ w64 (c .floor-other-whole .result) second ∙ c .floor-other-whole .ensures in
+    sym (toZ-ofZ w64 (c .floor-whole .result) first ∙ c .floor-whole .ensures) ∙ ap (toZ w64) (c .if-whole-other-whole .left) ∙ toZ-ofZ w64 (c .floor-other-whole .result) second ∙ c .floor-other-whole .ensures in
     ap₂ (λ (r : ℕ) (s : ℕ). ltb (r * b .denominator) (s * a .denominator)) (c .rest .ensures .value) (c .rest-else-whole-other-whole .ensures .value)
     ∙ by-rests (a .numerator) (b .numerator) (a .denominator) (b .denominator) (a .«denominator_least») (b .«denominator_least») same

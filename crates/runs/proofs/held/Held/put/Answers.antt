@@ -10,10 +10,13 @@ pub ghost-self : need.ghost-self
 ghost-self c =
     let f = told (c .args .self .now .row) in
     let g = told (c .put .last .self) in
-    let put : g ≡ with-reading (c .args .station) (c .args .value) f = c .put .ensures ∙ ap (λ (v : ℤ). with-reading (c .args .station) v f) (toZ-ofZ w64 (c .args .value) (c .fits .value)) in
-    (put-in-range f g (c .args .station) (c .args .value) (c .pre .0) (c .pre .1) put (c .args .self .now .«in_range»),
-    (put-beyond f g (c .args .station) (c .args .value) (c .pre .0) (c .pre .1) put (c .args .self .now .«none_beyond»),
-    (c .args .self .now .«tolerance_most», tt)))
+    let put : g ≡ with-reading (c .args .station) (c .args .value) f = c .put .ensures ∙ ap (λ (v : ℤ). with-reading (c .args .station) v f) (toZ-ofZ w64 (c .args .value) (c .fits .value)) in (
+      put-in-range f g (c .args .station) (c .args .value) (c .pre .0) (c .pre .1) put (c .args .self .now .«in_range»),
+      (
+        put-beyond f g (c .args .station) (c .args .value) (c .pre .0) (c .pre .1) put (c .args .self .now .«none_beyond»),
+        (c .args .self .now .«tolerance_most», tt),
+      ),
+    )
 
 pub returns : need.returns
 returns c =
