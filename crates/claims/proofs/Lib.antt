@@ -1,3 +1,6 @@
 pub mod Bands
+pub mod Cases
 pub mod Keeping
+pub mod Piles
 pub mod Replaying
+pub mod Settling

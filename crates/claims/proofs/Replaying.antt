@@ -40,14 +40,14 @@ underway-none m l es places = record { ledger = refl; replies = refl; beyond = r
 module _ (m : Meaning) (l : Ledger) (es : List Entry) (places now : List Reply) (i : ℕ) (k : Ledger) where
   pub underway-more : (e : Entry) (rest : List Entry) (r : Reply) (after : Ledger) → i < length now → r ≡ answer m k e → after ≡ step m k e → Underway m l (e ∷ rest) es places now i k → Underway m l rest es places (set now i r) (i + 1) after
   underway-more e rest r after h er ek u = record {
-      ledger = ap (λ t. ledger-from m t rest) ek ∙ u .ledger;
-      replies =
-          ap (λ t. t ++ replies-from m after rest) (take-more-set now i r h) ∙ append-assoc (take i now) (r ∷ []) (replies-from m after rest) ∙
-          ap₂ (λ s t. take i now ++ (s ∷ replies-from m t rest)) er ek ∙ u .replies;
-      beyond =
-          drop-set-lt (i + 1) now i r (omega arith) ∙ sym (drop-drop 1 i now) ∙ ap (drop 1) (u .beyond) ∙ drop-drop 1 i places;
-      long = length-set now i r ∙ u .long
-      }
+    ledger = ap (λ t. ledger-from m t rest) ek ∙ u .ledger;
+    replies =
+        ap (λ t. t ++ replies-from m after rest) (take-more-set now i r h) ∙ append-assoc (take i now) (r ∷ []) (replies-from m after rest) ∙
+        ap₂ (λ s t. take i now ++ (s ∷ replies-from m t rest)) er ek ∙ u .replies;
+    beyond =
+        drop-set-lt (i + 1) now i r (omega arith) ∙ sym (drop-drop 1 i now) ∙ ap (drop 1) (u .beyond) ∙ drop-drop 1 i places;
+    long = length-set now i r ∙ u .long;
+  }
 
   pub underway-ledger : Underway m l [] es places now i k → k ≡ ledger-from m l es
   underway-ledger u = u .ledger

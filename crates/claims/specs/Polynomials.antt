@@ -42,9 +42,9 @@ Fits p r = (s : ℕ) (v : ℤ) → r .reading s ≡ Some v → Within p s v (tol
 -- the sum of two fractions
 abbrev pub plus : Fraction → Fraction → Fraction
 plus x y = record {
-    numerator = (x .numerator *ℤ pos (y .denominator)) +ℤ (y .numerator *ℤ pos (x .denominator));
-    denominator = x .denominator * y .denominator
-    }
+  numerator = (x .numerator *ℤ pos (y .denominator)) +ℤ (y .numerator *ℤ pos (x .denominator));
+  denominator = x .denominator * y .denominator;
+}
 
 -- Σ aᵢ·Lⁱ⁺¹/(i+1) for i below n
 unfoldable pub power-integrals : (ℕ → ℤ) → (L n : ℕ) → Fraction
@@ -55,6 +55,6 @@ power-integrals a L (suc n) =
 -- the integral from 0 to L: Σ aᵢ·Lⁱ⁺¹/(i+1), over q
 abbrev pub integral : Polynomial → ℕ → Fraction
 integral p L = record {
-    numerator = power-integrals (coefficient p) L (length (p .coefficients)) .numerator;
-    denominator = power-integrals (coefficient p) L (length (p .coefficients)) .denominator * p .denominator
-    }
+  numerator = power-integrals (coefficient p) L (length (p .coefficients)) .numerator;
+  denominator = power-integrals (coefficient p) L (length (p .coefficients)) .denominator * p .denominator;
+}

@@ -1,5 +1,8 @@
 // The law over whole runs: a case replayed, and two cases settled.
-mod replay;
+mod one_case;
+mod two_cases;
 
-pub use replay::Case;
-pub use replay::replay as replay_case;
+pub use one_case::Case;
+pub use one_case::replay;
+pub use two_cases::Settlement;
+pub use two_cases::settle;

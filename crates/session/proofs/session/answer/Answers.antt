@@ -11,7 +11,7 @@ returns c =
     let bytes = c .args .input .now in
     let rest : take (length bytes - 6) (drop 6 bytes) ≡ drop 6 bytes = take-all (length bytes - 6) (drop 6 bytes) (omega (arith, length-drop 6 bytes)) in
     record {
-        buffer = c .report-2 .ensures .buffer ∙ ap (λ t. reported (estimated (take 6 bytes) t) (c .args .out .now) .buffer) rest;
-        report = c .report-2 .ensures .report ∙ ap (λ t. reported (estimated (take 6 bytes) t) (c .args .out .now) .report) rest;
-        within = c .report-2 .ensures .within
-        }
+      buffer = c .report-2 .ensures .buffer ∙ ap (λ t. reported (estimated (take 6 bytes) t) (c .args .out .now) .buffer) rest;
+      report = c .report-2 .ensures .report ∙ ap (λ t. reported (estimated (take 6 bytes) t) (c .args .out .now) .report) rest;
+      within = c .report-2 .ensures .within;
+    }

@@ -15,8 +15,8 @@ returns c =
     let readings = surveyed (c .in-Continue-readings .readings) in
     let rule = c .load .ensures .rule ∙ c .new-run .ensures .rule in
     let ledger =
-        c .load .ensures .ledger ∙ ap (λ t. step (told t) (ledger-of new) (loading readings)) (c .new-run .ensures .rule) ∙
-        ap (λ l. step (told pile) l (loading readings)) (c .new-run .ensures .ledger) in
+    c .load .ensures .ledger ∙ ap (λ t. step (told t) (ledger-of new) (loading readings)) (c .new-run .ensures .rule) ∙
+    ap (λ l. step (told pile) l (loading readings)) (c .new-run .ensures .ledger) in
     c .result .ensures ∙ ap (λ t. result-of (told t) (ledger-of run .readings)) rule ∙ ap (λ l. result-of (told pile) (l .readings)) ledger ∙
     all-accepted (c .args .order .now) (c .args .survey .now) (parts (c .in-Continue-read .field-0)) (told pile) readings
     (c .in-Continue-read .ensures tt) (c .in-Continue-pile .ensures tt) (c .in-Continue-readings .ensures tt)

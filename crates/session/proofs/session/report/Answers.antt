@@ -11,17 +11,17 @@ returns-in-Ok c =
     let told = estimated (c .args .order .now) (c .args .survey .now) in
     let report : c .write-result .result ≡ reported told (c .args .out .now) .report = search needs in
     record {
-        buffer = search needs;
-        report = report;
-        within = subst (λ w. w .len ≤ length (c .args .out .now)) (sym report) (reported-within told (c .args .out .now))
-        }
+      buffer = search needs;
+      report = report;
+      within = subst (λ w. w .len ≤ length (c .args .out .now)) (sym report) (reported-within told (c .args .out .now));
+    }
 
 pub returns-in-Err : need.returns-in-Err
 returns-in-Err c =
     let told = estimated (c .args .order .now) (c .args .survey .now) in
     let report : c .write-refusal .result ≡ reported told (c .args .out .now) .report = search needs in
     record {
-        buffer = search needs;
-        report = report;
-        within = subst (λ w. w .len ≤ length (c .args .out .now)) (sym report) (reported-within told (c .args .out .now))
-        }
+      buffer = search needs;
+      report = report;
+      within = subst (λ w. w .len ≤ length (c .args .out .now)) (sym report) (reported-within told (c .args .out .now));
+    }

@@ -4,7 +4,7 @@ use lib.ListN.{drop, take}
 use Rattle.runs.specs.Recorded.{entry-of, ledger-of}
 use Rattle.rules.specs.Tables.{told}
 use Rattle.claims.proofs.Replaying.{Underway}
-use Rattle.claims.proofs.replay.perform_all.Given as given
+use Rattle.claims.proofs.one_case.perform_all.Given as given
 
 abbrev pub Inv-loop-index : given.InvT-loop-index
 Inv-loop-index g l =

@@ -43,7 +43,10 @@ fn perform_all<S: Source>(run: &mut Run<Table>, calls: &[Call<S>], replies: &mut
 
 // Replays a case and writes the reply to each call. The run is handed back, so that more calls can follow.
 // Refused by a layer, or where there are fewer places than calls; the places stay as they were then.
-pub fn replay<B: Rule + Drop, S: Source>(case: Case<B, S>, replies: &mut [Reply]) -> Result<Run<Table>, Fault>
+pub fn replay<B: Rule + Drop, S: Source>(
+    case: Case<B, S>,
+    replies: &mut [Reply],
+) -> Result<Run<Table>, Fault>
     ensures account { λ r. ⌜ mapped account-of (λ e. e) r ≡ replayed (B·Rule .meaning (case .entry .bottom)) (now (case .entry .layers)) (map (entry-of (S·Source .meaning)) (now (case .entry .calls))) (length (now (replies .entry))) ⌝ }
     ensures replies { λ _. ⌜ now (replies .exit) ≡ replies-left (replayed (B·Rule .meaning (case .entry .bottom)) (now (case .entry .layers)) (map (entry-of (S·Source .meaning)) (now (case .entry .calls))) (length (now (replies .entry)))) (map (entry-of (S·Source .meaning)) (now (case .entry .calls))) (now (replies .entry)) ⌝ }
 {
