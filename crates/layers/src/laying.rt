@@ -1,9 +1,11 @@
 // The layers as calls: one layer on a rule, or a list of layers from the bottom.
+ghost use Prim.Native.Nat.{suc};
 ghost use mathlib.Core.Path.{_≡_};
+ghost use Rattle.algebra.specs.Divisors.{Greatest};
 ghost use Rattle.std.specs.Results.{Cases, mapped};
 ghost use Rattle.rules.specs.Meaning.{Sound};
 ghost use Rattle.rules.specs.Tables.{told as told-by};
-ghost use Rattle.layers.specs.Layers.{making, mirrored, piling, reduced};
+ghost use Rattle.layers.specs.Layers.{divisor-of, making, mirrored, piling, reduced};
 use crate::layer::Layer;
 use crate::make::lay_lowest_terms;
 use crate::make::lay_mirror;
@@ -44,9 +46,10 @@ pub fn refine<R: Rule + Drop>(below: R) -> Result<Table, Fault>
     lay_refinement(below, 0)
 }
 
-// A rule with weights and denominator in lowest terms; never refused.
+// A rule with weights and denominator in lowest terms; never refused. What they are divided by divides them all, and every common divisor divides it.
 pub fn lowest_terms<R: Rule + Drop>(below: R) -> Table
-    ensures { λ r. ⌜ told-by r ≡ reduced (meaning below) ⌝ }
+    ensures value { λ r. ⌜ told-by r ≡ reduced (meaning below) ⌝ }
+    ensures greatest { λ _. ⌜ Greatest (meaning below .weighting .denominator) (suc (meaning below .span)) (meaning below .weighting .weight) (divisor-of (meaning below)) ⌝ }
 {
     lay_lowest_terms(below)
 }

@@ -6,7 +6,7 @@ ghost use Prim.Native.Nat.{_≤_};
 
 // The first `len` bytes are the text so far. The longest line that a report has is 84 bytes long.
 #[derive(Drop)]
-pub struct Line {
+pub(crate) struct Line {
     bytes: [u8; 96],
     len: usize,
     ghost within: { len ≤ 96 },

@@ -21,11 +21,11 @@ pub trait Rule {
     fn denominator(&self) -> u64
         ensures { λ r. ⌜ r ≡ meaning (now (self .entry)) .weighting .denominator ⌝ };
 
-    // The highest power up to which all are integrated exactly.
+    // Every power up to this one is integrated exactly.
     fn degree(&self) -> usize
         ensures { λ r. ⌜ r ≡ meaning (now (self .entry)) .degree ⌝ };
 
-    // Whether the weights read the same from both ends.
+    // Whether the rule is told symmetric; then its weights read the same from both ends and its degree is odd.
     fn is_symmetric(&self) -> bool
         ensures { λ r. ⌜ r ≡ meaning (now (self .entry)) .symmetric ⌝ };
 

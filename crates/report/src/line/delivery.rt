@@ -10,7 +10,7 @@ ghost use Rattle.report.specs.Reports.{delivered};
 
 impl Line {
     // `told` is what the caller is told where the line fits.
-    pub fn deliver(&self, out: &mut [u8], told: Option<Fault>) -> Written
+    pub(crate) fn deliver(&self, out: &mut [u8], told: Option<Fault>) -> Written
         ensures buffer { λ _. ⌜ now (out .exit) ≡ delivered (text (now (self .entry))) told (now (out .entry)) .buffer ⌝ }
         ensures report { λ r. ⌜ r ≡ delivered (text (now (self .entry))) told (now (out .entry)) .report ⌝ }
     {

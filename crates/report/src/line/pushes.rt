@@ -10,7 +10,7 @@ ghost use Rattle.rules.specs.Faults.{name-of};
 ghost use Rattle.report.specs.Lines.{text};
 
 impl Line {
-    pub fn empty() -> Line
+    pub(crate) fn empty() -> Line
         ensures text { λ r. ⌜ text r ≡ [] ⌝ }
         ensures len { λ r. ⌜ r .len ≡ 0 ⌝ }
     {
@@ -20,7 +20,7 @@ impl Line {
         }
     }
 
-    pub fn push_byte(&mut self, byte: u8)
+    pub(crate) fn push_byte(&mut self, byte: u8)
         requires { ⌜ now self .len < 96 ⌝ }
         ensures text { λ _. ⌜ text (now (self .exit)) ≡ text (now (self .entry)) ++ byte ∷ [] ⌝ }
         ensures len { λ _. ⌜ now (self .exit) .len ≡ now (self .entry) .len + 1 ⌝ }
@@ -29,7 +29,7 @@ impl Line {
         self.len += 1;
     }
 
-    pub fn push_bytes(&mut self, bytes: &[u8])
+    pub(crate) fn push_bytes(&mut self, bytes: &[u8])
         requires { ⌜ now self .len + length (now bytes) ≤ 96 ⌝ }
         ensures text { λ _. ⌜ text (now (self .exit)) ≡ text (now (self .entry)) ++ now (bytes .entry) ⌝ }
         ensures len { λ _. ⌜ now (self .exit) .len ≡ now (self .entry) .len + length (now (bytes .entry)) ⌝ }
@@ -54,7 +54,7 @@ impl Line {
     }
 
     // No number of 64 bits has more than 20 digits.
-    pub fn push_number(&mut self, n: u64)
+    pub(crate) fn push_number(&mut self, n: u64)
         requires { ⌜ now self .len + 20 ≤ 96 ⌝ }
         ensures text { λ _. ⌜ text (now (self .exit)) ≡ text (now (self .entry)) ++ decimal n ⌝ }
         ensures len { λ _. ⌜ now (self .exit) .len ≤ now (self .entry) .len + 20 ⌝ }
@@ -62,7 +62,7 @@ impl Line {
         self.push_digits(n);
     }
 
-    pub fn push_signed(&mut self, n: i64)
+    pub(crate) fn push_signed(&mut self, n: i64)
         requires { ⌜ now self .len + 21 ≤ 96 ⌝ }
         ensures text { λ _. ⌜ text (now (self .exit)) ≡ text (now (self .entry)) ++ signed n ⌝ }
         ensures len { λ _. ⌜ now (self .exit) .len ≤ now (self .entry) .len + 21 ⌝ }
@@ -74,7 +74,7 @@ impl Line {
     }
 
     // No layer's name has more than 6 letters.
-    pub fn push_name(&mut self, layer: Origin)
+    pub(crate) fn push_name(&mut self, layer: Origin)
         requires { ⌜ now self .len + 6 ≤ 96 ⌝ }
         ensures text { λ _. ⌜ text (now (self .exit)) ≡ text (now (self .entry)) ++ name-of layer ⌝ }
         ensures len { λ _. ⌜ now (self .exit) .len ≤ now (self .entry) .len + 6 ⌝ }
