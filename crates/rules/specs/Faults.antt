@@ -1,5 +1,6 @@
 -- Which number and which name a report prints for a fault, and how a fault is carried.
-use mathlib.Core.List.{List, [], _∷_}
+use mathlib.Core.List.{List, [], _∷_, _++_}
+use Rattle.std.specs.Written.{decimal}
 use Prim.Native.Nat.{ℕ}
 use Rattle.std.specs.declared.result.Result.{Result}
 use Rattle.std.specs.declared.result.Result.the-variants.{Ok, Err}
@@ -44,6 +45,10 @@ name-of Run = 82 ∷ 85 ∷ 78 ∷ []
 name-of Other = 79 ∷ 84 ∷ 72 ∷ 69 ∷ 82 ∷ []
 name-of Order = 79 ∷ 82 ∷ 68 ∷ 69 ∷ 82 ∷ []
 name-of Output = 79 ∷ 85 ∷ 84 ∷ 80 ∷ 85 ∷ 84 ∷ []
+
+-- number, layer and place with single spaces between
+abbrev pub fault-text : Fault → List ℕ
+fault-text f = decimal (number-of (f .cause)) ++ (32 ∷ (name-of (f .layer) ++ (32 ∷ decimal (f .place))))
 
 -- the fault as it is, or what f makes of the value
 abbrev pub carried : {A B : Type 0} → Result A Fault → (A → Result B Fault) → Result B Fault

@@ -1,6 +1,8 @@
 // A refusal: why, in which part of the library, and where.
 ghost use mathlib.Core.Path.{_≡_};
-ghost use Rattle.rules.specs.Faults.{number-of, name-of};
+ghost use Rattle.std.specs.declared.option.Option.the-variants.{Some};
+ghost use Rattle.rules.specs.Faults.{fault-text, number-of, name-of};
+use std::fmt;
 
 // Why a call is refused. The number of a case is the one that a report prints.
 #[derive(Clone, Copy, PartialEq, Eq, Debug)]
@@ -100,4 +102,16 @@ pub struct Fault {
     pub cause: Cause,
     pub layer: Origin,
     pub place: usize,
+}
+
+// As a report has it, after the word REFUSED: number, layer and place.
+pub impl fmt::Display for Fault as FaultDisplay {
+    ghost shown = { λ f. Some (fault-text f) };
+
+    fn fmt<W: fmt::Write>(&self, f: &mut fmt::Formatter<W>) -> fmt::Result {
+        let number = self.cause.number();
+        let layer = self.layer.name();
+        let place = self.place;
+        write!(f, "{number} {layer} {place}")
+    }
 }

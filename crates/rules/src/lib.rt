@@ -12,6 +12,7 @@ pub use fault::CauseDebug;
 pub use fault::CausePartialEq;
 pub use fault::Fault;
 pub use fault::FaultDebug;
+pub use fault::FaultDisplay;
 pub use fault::FaultPartialEq;
 pub use fault::Origin;
 pub use fault::OriginDebug;

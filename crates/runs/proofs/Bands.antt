@@ -1,34 +1,19 @@
 -- What it means that two bands are apart.
-use mathlib.Core.Path.{_≡_, refl, sym, ap, ap₂, subst, _∙_}
-use mathlib.Core.Bool.{Bool, true, false, cond, not, _||_}
+use mathlib.Core.Path.{_≡_, refl, sym, ap, _∙_}
+use mathlib.Core.Bool.{true, false, not}
 use mathlib.Core.Logic.{⊎-elim}
-use Prim.Native.Nat.{ℕ, _*_, _≤_, _<_, _^_}
+use Prim.Native.Nat.{ℕ, _≤_, _<_}
 use native.Mathlib.Omega.{arith}
-use lib.Dec.{eqb}
-use lib.IntN.{ℤ, pos, _+ℤ_, _-ℤ_, _*ℤ_, natAbs, *ℤ-comm}
-use lib.Signed.{ltZ, _≤ℤ_, _<ℤ_}
-use borrow.Author.Differences.{ints, le-out, lt-true, lt-false, at-most-in, below-in}
-use Rattle.std.proofs.shelf.Tests.{or-cases, or-parts, cond-true, cond-false, cases-bool, eq-eqb, true≢false}
+use lib.IntN.{ℤ, pos, _+ℤ_, _-ℤ_, _*ℤ_, *ℤ-comm}
+use lib.Signed.{_≤ℤ_, _<ℤ_}
+use borrow.Author.Differences.{ints, lt-true, lt-false, at-most-in, below-in}
+use Rattle.std.proofs.shelf.Tests.{or-cases, or-parts}
 use Rattle.std.proofs.shelf.Signed.{by-ltZ}
-use Rattle.std.specs.declared.option.Option.{Option}
-use Rattle.std.specs.declared.option.Option.the-variants.{Some, None}
-use Rattle.std.specs.declared.result.Result.{Result}
-use Rattle.std.specs.declared.result.Result.the-variants.{Ok, Err}
-use Rattle.rules.specs.Meaning.{Meaning, Sound}
-use Rattle.rules.specs.declared.fault.Fault.{Fault}
-use Rattle.rules.specs.declared.fault.Origin.the-variants.{Run, Other}
-use Rattle.algebra.specs.Sums.{sum, abs}
 use Rattle.algebra.proofs.Integers.{*ℤ-distl, *ℤ-assoc}
 use Rattle.algebra.proofs.Absolute.{_≤∙_, ≤ℤ-of-eq, ≤ℤ-scale}
-use Rattle.sources.specs.Readings.{Readings, SoundReadings}
 use Rattle.runs.specs.declared.estimate.Estimate.{Estimate}
-use Rattle.runs.specs.declared.verdict.Verdict.{Verdict}
-use Rattle.runs.specs.declared.verdict.Verdict.the-variants.{Apart, Meet}
-use Rattle.runs.specs.Fractions.{Fraction, Proper, below, at-most}
-use Rattle.runs.specs.Ledger.{Ledger, estimate-of, result-of}
-use Rattle.runs.specs.Totals.{lowest-empty, empty-station, given}
-use Rattle.runs.specs.Verdicts.{low-end, high-end, inside, shared, bands-apart, Bounded, first-fault, verdict-refusal, verdict-on, verdict-of, Separates}
-use Rattle.runs.proofs.Sizes.{product-bound, size-bound, sum-bound}
+use Rattle.runs.specs.Fractions.{Fraction, below, at-most}
+use Rattle.runs.specs.Verdicts.{low-end, high-end, shared, bands-apart}
 
 -- two factors change places
 turn : (x : ℤ) (a b : ℕ) → pos a *ℤ (x *ℤ pos b) ≡ pos b *ℤ (x *ℤ pos a)

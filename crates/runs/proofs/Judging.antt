@@ -2,10 +2,9 @@
 use mathlib.Core.Path.{_≡_, refl, sym, ap, ap₂, subst, _∙_}
 use mathlib.Core.Bool.{Bool, true, false, cond, not}
 use mathlib.Core.Logic.{⊎-elim}
-use Prim.Native.Nat.{ℕ, _*_, _≤_, _^_}
+use Prim.Native.Nat.{ℕ, _≤_, _^_}
 use native.Mathlib.Omega.{arith}
-use lib.Dec.{eqb}
-use lib.IntN.{ℤ, pos, _*ℤ_, natAbs}
+use lib.IntN.{ℤ, pos}
 use lib.Signed.{_≤ℤ_}
 use borrow.Author.Differences.{ints}
 use Rattle.std.proofs.shelf.Tests.{cases-bool, eq-eqb}
@@ -13,12 +12,12 @@ use Rattle.std.specs.Options.{isSome}
 use Rattle.std.specs.declared.option.Option.{Option}
 use Rattle.std.specs.declared.option.Option.the-variants.{Some, None}
 use Rattle.std.specs.declared.result.Result.{Result}
-use Rattle.std.specs.declared.result.Result.the-variants.{Ok, Err}
+use Rattle.std.specs.declared.result.Result.the-variants.{Ok}
 use Rattle.rules.specs.Meaning.{Meaning, Sound}
 use Rattle.rules.specs.declared.fault.Cause.the-variants.{SpansDiffer}
 use Rattle.rules.specs.declared.fault.Fault.{Fault}
 use Rattle.rules.specs.declared.fault.Origin.the-variants.{Run, Other}
-use Rattle.algebra.specs.Sums.{sum, abs}
+use Rattle.algebra.specs.Sums.{abs}
 use Rattle.algebra.proofs.Absolute.{_≤∙_, ≤ℤ-of-eq, ≤ℤ-scale, abs-sum}
 use Rattle.sources.specs.Readings.{Readings, SoundReadings}
 use Rattle.runs.specs.declared.estimate.Estimate.{Estimate}

@@ -1,7 +1,7 @@
 -- How large a weighted sum of readings may be.
-use mathlib.Core.Path.{_≡_, refl, sym, ap, _∙_}
-use Prim.Native.Nat.{ℕ, suc, _*_, _^_, _≤_, _<_}
-use native.Mathlib.Nat.{mul-le-mul, mul-le-mul-left}
+use mathlib.Core.Path.{_≡_, refl, sym, ap}
+use Prim.Native.Nat.{ℕ, _*_, _^_, _≤_, _<_}
+use native.Mathlib.Nat.{mul-le-mul}
 use native.Mathlib.Omega.{arith}
 use lib.IntN.{ℤ, pos, _*ℤ_, natAbs, *ℤ-comm}
 use lib.Signed.{_≤ℤ_}
@@ -13,7 +13,7 @@ use Rattle.algebra.proofs.Sums.{sum-scale}
 use Rattle.algebra.proofs.Absolute.{_≤∙_, ≤ℤ-of-eq, ≤ℤ-scale, abs-mul, abs-sum, sum-le, sum-abs-more}
 use Rattle.rules.specs.Meaning.{Meaning, Sound}
 use Rattle.sources.specs.Readings.{Readings, SoundReadings}
-use Rattle.runs.specs.Totals.{value-of, weighted-sum, absolute-sum}
+use Rattle.runs.specs.Totals.{value-of}
 
 -- a product is as large as the product of the sizes
 pub product-bound : (a b : ℕ) (x y : ℤ) → natAbs x ≤ a → natAbs y ≤ b → natAbs (x *ℤ y) ≤ a * b

@@ -45,7 +45,7 @@ changes (loading source) = true
 changes publishing = true
 changes asking = false
 
--- the checks of a call that a published run does not refuse at once, in their order: the fault of the first that fails
+-- the checks of a call that publication does not bar, in their order: the fault of the first that fails
 abbrev pub own-refusal : Meaning → Readings → Entry → Option Fault
 own-refusal m r (entering s v) =
     cond (ltb (m .span) s) (Some (fault-at StationBeyondSpan s))
@@ -90,7 +90,7 @@ step m l e = unless-refused (refusal m l e) l (changed m l e)
 abbrev pub outcome : Meaning → Ledger → Entry → Result (Unit {0}) Fault
 outcome m l e = given (refusal m l e) tt
 
--- both, where the run is known not to be published
+-- both, for a call that publication does not bar
 abbrev pub own-step : Meaning → Ledger → Entry → Ledger
 own-step m l e = unless-refused (own-refusal m (l .readings) e) l (changed m l e)
 

@@ -1,9 +1,9 @@
 -- The bands of results, and the verdict on two runs.
 use mathlib.Core.Path.{_≡_}
 use mathlib.Core.Bool.{Bool, cond, not, _||_}
-use Prim.Native.Nat.{ℕ, _≤_, _^_}
+use Prim.Native.Nat.{_≤_, _^_}
 use lib.Dec.{eqb}
-use lib.IntN.{ℤ, _+ℤ_, _-ℤ_, natAbs}
+use lib.IntN.{_+ℤ_, _-ℤ_, natAbs}
 use Rattle.std.specs.declared.option.Option.{Option}
 use Rattle.std.specs.declared.option.Option.the-variants.{Some, None}
 use Rattle.std.specs.declared.result.Result.{Result}

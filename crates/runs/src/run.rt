@@ -1,4 +1,4 @@
-// Runs.
+// A run: a rule, the readings gathered for it, and whether they are published.
 mod changes;
 mod making;
 mod performing;
@@ -6,13 +6,13 @@ mod performing;
 use crate::held::Held;
 
 // Whether a run still takes calls that change it.
-#[derive(Clone, Copy, PartialEq, Eq, Debug)]
+#[derive(Clone, Copy)]
 pub enum State {
     Gathering,
     Published,
 }
 
-// The readings gathered for a rule.
+// What the fields mean is the ledger of the run.
 #[derive(Drop)]
 pub struct Run<R> {
     rule: R,

@@ -1,6 +1,6 @@
 -- Horner's scheme: its steps are the values of the polynomial's upper parts, and how large they become.
 use mathlib.Core.Path.{_≡_, refl, sym, ap, subst, _∙_, fun-ext}
-use mathlib.Core.Bool.{Bool, true, false, _&&_}
+use mathlib.Core.Bool.{true, false, _&&_}
 use mathlib.Core.Logic.{⊎-elim}
 use Prim.Native.Nat.{ℕ, zero, suc, _+_, _-_, _*_, _^_, _≤_, _<_}
 use native.Mathlib.Nat.{mul-le-mul-left}
@@ -9,7 +9,7 @@ use lib.Dec.{leb, ltb}
 use lib.IntN.{ℤ, pos, negsuc, _+ℤ_, _*ℤ_, natAbs, +ℤ-assoc, *ℤ-comm}
 use mir.Syntax.{w64}
 use mir.Val.{SFits, toZ, ofZ}
-use borrow.Author.Differences.{up, down, ints, sum-is, product-is, abs-is, same-in}
+use borrow.Author.Differences.{up, down, ints, product-is}
 use Rattle.std.proofs.shelf.Tests.{cases-lt, both-ways, and-cases, and-parts, and-from, and-right, lt-ltb, ltb-true, ltb-false, lt-leb, le-leb, cond-true, cond-false}
 use Rattle.std.proofs.shelf.Signed.{toZ-ofZ, toZ-pos}
 use Rattle.std.specs.declared.option.Option.the-variants.{Some, None}
@@ -92,14 +92,6 @@ pub record Steady (a : ℕ → ℤ) (s k : ℕ) (v : ℤ) : Type 0 where
   pub is : v ≡ horner a (pos s) k (12 - k)
   pub above-one : 2 ≤ s → natAbs v ≤ 2097152
   pub at-most-one : s ≤ 1 → natAbs v ≤ (12 - k) * 1048576
-
-pub steady-none : (a : ℕ → ℤ) (s : ℕ) → Steady a s 12 (pos 0)
-steady-none a s = record { is = refl; above-one = λ h. omega arith; at-most-one = λ h. omega arith }
-
--- a step stays small
-pub steady-size : (a : ℕ → ℤ) (s k : ℕ) (v : ℤ) → Steady a s k v → natAbs v ≤ 12582912
-steady-size a s k v st =
-    ⊎-elim (λ l. let h = st .at-most-one (omega arith) in omega arith) (λ g. let h = st .above-one g in omega arith) (cases-lt s 2)
 
 abbrev next : (ℕ → ℤ) → ℕ → ℕ → ℤ → ℤ
 next a s k v = (v *ℤ pos s) +ℤ a (k - 1)

@@ -1,15 +1,14 @@
 -- A step table written out station by station, with the number of starts passed so far.
 use mathlib.Core.Path.{_≡_, refl, sym, ap, subst, _∙_}
-use mathlib.Core.Bool.{Bool, true, false, cond, _&&_, _||_}
+use mathlib.Core.Bool.{Bool, true, false, cond, _&&_}
 use mathlib.Core.Logic.{⊎-elim}
 use Prim.Native.Nat.{ℕ, zero, suc, _+_, _-_, _≤_, _<_}
-use native.Mathlib.Numerals.{add-one}
 use native.Mathlib.Omega.{arith}
 use lib.Dec.{leb, ltb, eqb}
 use lib.IntN.{ℤ}
 use lib.ListN.{length}
 use mathlib.Core.List.{List}
-use Rattle.std.proofs.shelf.Tests.{le-leb, lt-leb, lt-ltb, le-ltb, leb-true, leb-false, ltb-true, ltb-false, or-parts, and-parts, and-cases, cases-eq, cases-lt, eq-eqb, ne-eqb, eqb-true, eqb-false, cases-bool, cond-true, cond-false, cond-both, both-ways}
+use Rattle.std.proofs.shelf.Tests.{le-leb, lt-leb, lt-ltb, le-ltb, leb-false, ltb-true, or-parts, and-parts, and-cases, cases-eq, cases-lt, eq-eqb, ne-eqb, eqb-true, eqb-false, cond-true, cond-false, cond-both, both-ways}
 use Rattle.std.specs.declared.option.Option.{Option}
 use Rattle.std.specs.declared.option.Option.the-variants.{Some, None}
 use Rattle.sources.specs.Readings.{InRange}

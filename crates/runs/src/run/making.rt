@@ -1,8 +1,7 @@
 // A new run, and its result.
 ghost use mathlib.Core.Path.{_≡_};
-ghost use Rattle.runs.specs.Ledger.{blank, asking, refusal, estimate-of};
+ghost use Rattle.runs.specs.Ledger.{blank, result-of};
 ghost use Rattle.runs.specs.Recorded.{ledger-of};
-ghost use Rattle.runs.specs.Totals.{given};
 use super::Run;
 use super::State;
 use crate::estimate::Estimate;
@@ -27,7 +26,7 @@ impl<R: Rule> Run<R> {
 
     // The integral of what is held, whether published or not.
     pub fn result(&self) -> Result<Estimate, Fault>
-        ensures { λ r. ⌜ r ≡ given (refusal (meaning (now (self .entry) .rule)) (ledger-of (now (self .entry))) asking) (estimate-of (meaning (now (self .entry) .rule)) (ledger-of (now (self .entry)) .readings)) ⌝ }
+        ensures { λ r. ⌜ r ≡ result-of (meaning (now (self .entry) .rule)) (ledger-of (now (self .entry)) .readings) ⌝ }
     {
         let total = total(&self.rule, &self.held)?;
         Ok(Estimate {

@@ -2,6 +2,7 @@
 use super::COEFFICIENTS;
 use super::Polynomial;
 use crate::checks::is_in_range;
+use crate::source::EXACT;
 use crate::source::LAST_STATION;
 use crate::source::Source;
 ghost use mathlib.Core.Path.{_≡_};
@@ -64,6 +65,6 @@ pub impl Source for Polynomial as PolynomialSource {
     }
 
     fn tolerance(&self) -> u64 {
-        0
+        EXACT
     }
 }

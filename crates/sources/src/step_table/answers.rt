@@ -1,5 +1,6 @@
 // A step table answers from its row; its readings are exact.
 use super::StepTable;
+use crate::source::EXACT;
 use crate::source::Source;
 ghost use Rattle.sources.specs.StepTables.{tabled};
 
@@ -11,6 +12,6 @@ pub impl Source for StepTable as StepTableSource {
     }
 
     fn tolerance(&self) -> u64 {
-        0
+        EXACT
     }
 }

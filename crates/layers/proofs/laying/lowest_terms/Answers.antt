@@ -6,6 +6,6 @@ pub returns : need.returns
 returns g c =
     let m = g .R·Rule .meaning (c .args .below) in
     record {
-        value = c .lay-lowest-terms .ensures;
-        greatest = common-divisor-greatest (m .weighting .denominator) (suc (m .span)) (m .weighting .weight)
-        }
+      value = c .lay-lowest-terms .ensures;
+      greatest = common-divisor-greatest (m .weighting .denominator) (suc (m .span)) (m .weighting .weight);
+    }

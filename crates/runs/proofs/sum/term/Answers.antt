@@ -1,8 +1,7 @@
 use borrow.Author.Needs.{needs}
-use mathlib.Core.Path.{_≡_, sym, ap, _∙_}
-use Prim.Native.Nat.{_^_, _≤_}
+use Prim.Native.Nat.{_^_}
 use native.Mathlib.Omega.{arith}
-use lib.IntN.{_*ℤ_, natAbs}
+use lib.IntN.{_*ℤ_}
 use borrow.Author.Differences.{ints}
 use mir.Syntax.{w64}
 use mir.Val.{SFits}

@@ -1,21 +1,19 @@
 use borrow.Author.Needs.{needs}
-use mathlib.Core.Bool.{false}
 use mathlib.Core.Path.{_≡_, refl, sym, ap, _∙_}
-use Prim.Native.Nat.{ℕ, suc, _+_, _^_, _≤_, _<_}
-use native.Mathlib.Numerals.{add-one}
+use Prim.Native.Nat.{ℕ, _^_, _≤_, _<_}
 use native.Mathlib.Omega.{arith}
-use lib.IntN.{ℤ, pos, _+ℤ_, _*ℤ_, natAbs}
+use lib.IntN.{pos, _+ℤ_, _*ℤ_, natAbs}
 use borrow.Author.Differences.{ints}
 use mir.Syntax.{w64}
 use mir.Val.{SFits, hbits}
 use Rattle.std.proofs.shelf.Signed.{toZ-ofZ, toZ-pos}
-use Rattle.std.specs.declared.result.Result.the-variants.{Ok, Err}
+use Rattle.std.specs.declared.result.Result.the-variants.{Err}
 use Rattle.rules.specs.declared.fault.Origin.the-variants.{Run}
-use Rattle.algebra.specs.Sums.{sum, abs}
-use Rattle.algebra.proofs.Sums.{sum-none, sum-more}
+use Rattle.algebra.specs.Sums.{sum}
+use Rattle.algebra.proofs.Sums.{sum-none}
 use Rattle.rules.proofs.Bounds.{weight-bound}
 use Rattle.std.specs.declared.option.Option.{Option}
-use Rattle.runs.specs.Totals.{lacks, value-of, fault-at, empty-station, given, sum-of}
+use Rattle.runs.specs.Totals.{lacks, empty-station, given, sum-of}
 use Rattle.runs.proofs.Sizes.{product-bound, size-bound}
 use Rattle.sources.proofs.Searches.{first-more, first-found}
 use Rattle.runs.proofs.Terms.{station-missing, sum-step, size-step, total-there}

@@ -1,8 +1,7 @@
-use mathlib.Core.Path.{_≡_, ap}
+use mathlib.Core.Path.{ap}
 use Prim.Native.Nat.{ℕ}
 use lib.IntN.{ℤ}
 use Rattle.std.specs.declared.option.Option.{Option}
-use Rattle.sources.specs.Readings.{Readings}
 use Rattle.sources.specs.Rows.{told}
 use Rattle.runs.proofs.Changes.{strike-in-range, strike-beyond}
 use Rattle.runs.proofs.held.Held.strike.Needs as need

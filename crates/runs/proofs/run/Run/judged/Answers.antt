@@ -1,4 +1,4 @@
-use mathlib.Core.Path.{_≡_, sym, subst}
+use mathlib.Core.Path.{sym, subst}
 use Rattle.runs.specs.Ledger.{estimate-of}
 use Rattle.runs.specs.Holding.{readings-held}
 use Rattle.runs.specs.Verdicts.{Bounded}

@@ -1,6 +1,4 @@
-use mathlib.Core.Path.{sym, ap, subst}
-use lib.IntN.{ℤ}
-use lib.ListN.{length}
+use mathlib.Core.Path.{sym, subst}
 use Rattle.sources.specs.Readings.{InRange}
 use Rattle.sources.proofs.Padding.{list-in-range}
 use Rattle.sources.proofs.polynomial.Polynomial.set.Needs as need
