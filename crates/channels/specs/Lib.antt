@@ -1,0 +1,5 @@
+pub mod Channels
+pub mod Floats
+pub mod Forces
+pub mod Kinds
+pub mod Numbers
