@@ -4,3 +4,4 @@ pub mod Keeping
 pub mod Piles
 pub mod Replaying
 pub mod Settling
+pub mod Witnesses

@@ -1,5 +1,7 @@
 // From the bytes of an order to its pile.
 ghost use mathlib.Core.Path.{_≡_};
+ghost use Prim.Native.Nat.{_≤_};
+ghost use lib.ListN.{take};
 ghost use Rattle.std.specs.Results.{mapped};
 ghost use Rattle.rules.specs.BuiltIn.{meaning-of-row, row-of};
 ghost use Rattle.rules.specs.Tables.{told as told-by};
@@ -57,13 +59,29 @@ impl Order {
         })
     }
 
-    // The pile that is ordered.
-    pub fn pile(self) -> Result<Table, Fault>
-        ensures { λ r. ⌜ mapped told-by (λ e. e) r ≡ piling (layers-of (parts self)) 1 (base-of (parts self)) ⌝ }
+    // The rule at the bottom.
+    pub fn base(self) -> BuiltIn
+        ensures { λ r. ⌜ meaning-of-row (row-of r) ≡ base-of (parts self) ⌝ }
+    {
+        self.base
+    }
+
+    // The layers from the bottom, and how many places of the array they take.
+    pub fn layers(self) -> ([Layer; 7], usize)
+        ensures listed { λ r. ⌜ take (r .1) (r .0) ≡ layers-of (parts self) ⌝ }
+        ensures within { λ r. ⌜ r .1 ≤ 7 ⌝ }
     {
         let mut layers = [Layer::Refinement; 7];
         layers[self.refinements] = Layer::Stretch(self.stretch);
         layers[self.refinements + 1] = Layer::Panels(self.panels);
-        pile(self.base, &layers[0..self.refinements + 2])
+        (layers, self.refinements + 2)
+    }
+
+    // The pile that is ordered.
+    pub fn pile(self) -> Result<Table, Fault>
+        ensures { λ r. ⌜ mapped told-by (λ e. e) r ≡ piling (layers-of (parts self)) 1 (base-of (parts self)) ⌝ }
+    {
+        let (layers, count) = self.layers();
+        pile(self.base(), &layers[0..count])
     }
 }

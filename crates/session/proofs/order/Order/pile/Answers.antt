@@ -1,11 +1,13 @@
-use mathlib.Core.Path.{ap, _∙_}
+use mathlib.Core.Path.{_≡_, ap, ap₂, _∙_}
+use Prim.Native.Nat.{_-_}
+use native.Mathlib.Omega.{arith}
+use lib.ListN.{take}
 use Rattle.layers.specs.Layers.{piling}
-use Rattle.layers.specs.declared.layer.Layer.the-variants.{Panels, Stretch}
-use Rattle.session.specs.Orders.{base-of, parts}
-use Rattle.session.proofs.Orders.{listed}
 use Rattle.session.proofs.order.Order.pile.Needs as need
 
 pub returns : need.returns
 returns c =
-    let o = c .args .self in
-    c .pile .ensures .value ∙ ap (λ ls. piling ls 1 (base-of (parts o))) (listed (o .refinements) (Stretch (o .stretch)) (Panels (o .panels)) (o .few))
+    let layers = c .layers-count .result .0 in
+    let count = c .layers-count .result .1 in
+    let whole : count - 0 ≡ count = omega arith in
+    c .pile .ensures .value ∙ ap₂ (λ ls b. piling ls 1 b) (ap (λ n. take n layers) whole ∙ c .layers-count .ensures .listed) (c .base .ensures)

@@ -1,0 +1,4 @@
+pub mod Accounts
+pub mod Prepared
+pub mod Splits
+pub mod VerdictLines
