@@ -70,29 +70,30 @@ mod tests {
         Ok(())
     }
 
-    // A result: its line, and no fault.
-    fn results_in(order: &[u8], survey: &[u8], text: &str) -> Result<(), Fail> {
-        let mut out = [GUARD; 96];
-        let written = report(order, survey, &mut out);
-        check_eq(written.len, text.len())?;
-        check(written.fault.is_none())?;
-        holds(&out, text)
-    }
-
-    // The fault is the one that the line tells.
+    // No fault with a result, and with a refusal the fault that its line tells.
     fn tells(written: Written, text: &str) -> Result<(), Fail> {
+        let Some(fault) = written.fault else {
+            return check(!text.starts_with("REFUSED"));
+        };
         let mut line = [GUARD; 40];
-        write_refusal(&mut line, written.fault.ok_or("no fault")?);
+        write_refusal(&mut line, fault);
         holds(&line, text)
     }
 
-    // A refusal: its line, and the fault of that line.
-    fn is_refused(order: &[u8], survey: &[u8], text: &str) -> Result<(), Fail> {
-        let mut out = [GUARD; 40];
+    fn gives(order: &[u8], survey: &[u8], text: &str) -> Result<(), Fail> {
+        let mut out = [GUARD; 96];
         let written = report(order, survey, &mut out);
         check_eq(written.len, text.len())?;
         tells(written, text)?;
         holds(&out, text)
+    }
+
+    // The lines of orders over one survey.
+    fn all_give(survey: &[u8], cases: &[([u8; 6], &str)]) -> Result<(), Fail> {
+        for (order, text) in cases {
+            gives(order, survey, text)?;
+        }
+        Ok(())
     }
 
     // The stations below `count`.
@@ -132,14 +133,6 @@ mod tests {
         survey_of(heap, count, tolerance, stations.as_slice(), readings)
     }
 
-    // The results of orders over one survey.
-    fn all_result_in(survey: &[u8], cases: &[([u8; 6], &str)]) -> Result<(), Fail> {
-        for (order, text) in cases {
-            results_in(order, survey, text)?;
-        }
-        Ok(())
-    }
-
     // Every base, with refinements, stretches and panels, over the same readings with a tolerance of 3.
     #[test]
     fn results(rt: LibcRuntime) -> Result<(), Fail> {
@@ -169,32 +162,25 @@ mod tests {
             ([10, 2, 0, 2, 0, 3], "-17968 3 2 360\n"),
             ([10, 5, 0, 1, 0, 1], "90405728 9765 5 2423520\n"),
         ];
-        all_result_in(survey.as_slice(), &cases)
+        all_give(survey.as_slice(), &cases)
     }
 
     // A station of weight 0 needs no reading.
     #[test]
     fn weight_zero(rt: LibcRuntime) -> Result<(), Fail> {
         let survey = survey_of(rt.alloc(), 3, 2, &[1, 2, 3], &[-5, 7, -11])?;
-        results_in(&[9, 1, 0, 1, 0, 1], survey.as_slice(), "-156 3 3 40\n")
+        gives(&[9, 1, 0, 1, 0, 1], survey.as_slice(), "-156 3 3 40\n")
     }
 
     // Orders of a wrong length, and surveys that are too short for a count.
     #[test]
     fn refused_lengths() -> Result<(), Fail> {
-        is_refused(&[], &[], "REFUSED 14 ORDER 0\n")?;
-        is_refused(&[0, 6, 0, 0, 0], &[], "REFUSED 14 ORDER 0\n")?;
-        is_refused(&[1, 1, 0, 1, 0, 2, 0], &[], "REFUSED 14 ORDER 0\n")?;
-        is_refused(&SIMPSON, &[], "REFUSED 14 SOURCE 0\n")?;
-        is_refused(&SIMPSON, &[0, 0, 0, 0, 0], "REFUSED 14 SOURCE 0\n")?;
-        is_refused(&SIMPSON, &[0, 0, 255, 0, 0, 0], "REFUSED 12 SOURCE 0\n")
-    }
-
-    fn all_orders_refused(cases: &[([u8; 6], &str)]) -> Result<(), Fail> {
-        for (order, text) in cases {
-            is_refused(order, &[], text)?;
-        }
-        Ok(())
+        gives(&[], &[], "REFUSED 14 ORDER 0\n")?;
+        gives(&[0, 6, 0, 0, 0], &[], "REFUSED 14 ORDER 0\n")?;
+        gives(&[1, 1, 0, 1, 0, 2, 0], &[], "REFUSED 14 ORDER 0\n")?;
+        gives(&SIMPSON, &[], "REFUSED 14 SOURCE 0\n")?;
+        gives(&SIMPSON, &[0, 0, 0, 0, 0], "REFUSED 14 SOURCE 0\n")?;
+        gives(&SIMPSON, &[0, 0, 255, 0, 0, 0], "REFUSED 12 SOURCE 0\n")
     }
 
     // An order is refused before its survey is read, and a layer before those above it.
@@ -223,7 +209,7 @@ mod tests {
             ([1, 5, 0, 12, 0, 1], "REFUSED 9 LAYER 6\n"),
             ([1, 5, 0, 1, 0, 12], "REFUSED 9 LAYER 7\n"),
         ];
-        all_orders_refused(&cases)
+        all_give(&[], &cases)
     }
 
     // Count, tolerance, stations and readings of a survey, and its refusal.
@@ -232,7 +218,7 @@ mod tests {
     fn all_surveys_refused(heap: Global, cases: &[SurveyCase]) -> Result<(), Fail> {
         for (count, tolerance, stations, readings, text) in cases {
             let survey = survey_of(heap, *count, *tolerance, stations, readings)?;
-            is_refused(&SIMPSON, survey.as_slice(), text)?;
+            gives(&SIMPSON, survey.as_slice(), text)?;
         }
         Ok(())
     }
@@ -306,7 +292,7 @@ mod tests {
                 "397044104350924800 739552275 11 794088208701849600\n",
             ),
         ];
-        all_result_in(survey.as_slice(), &cases)
+        all_give(survey.as_slice(), &cases)
     }
 
     // Orders whose value, denominator or radius is the largest, over the least readings with the greatest tolerance.
@@ -328,7 +314,7 @@ mod tests {
                 "-545935643482521600 739552275 11 1074389718138880000\n",
             ),
         ];
-        all_result_in(survey.as_slice(), &cases)
+        all_give(survey.as_slice(), &cases)
     }
 
     // The answer to the input in the first `room` bytes.
@@ -375,9 +361,9 @@ mod tests {
     // The cubes, and what becomes of them without the station 3.
     #[test]
     fn cubes(rt: LibcRuntime) -> Result<(), Fail> {
-        results_in(&CUBES[0..6], &CUBES[6..42], "384 6 3 24\n")?;
+        gives(&CUBES[0..6], &CUBES[6..42], "384 6 3 24\n")?;
         let survey = survey_of(rt.alloc(), 4, 1, &[0, 1, 2, 4], &[0, 1, 8, 64])?;
-        is_refused(&CUBES[0..6], survey.as_slice(), "REFUSED 21 RUN 3\n")
+        gives(&CUBES[0..6], survey.as_slice(), "REFUSED 21 RUN 3\n")
     }
 
     #[test]
