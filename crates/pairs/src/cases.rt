@@ -1,8 +1,8 @@
 // From the bytes of two cases to the verdict on their results.
 ghost use mathlib.Core.Path.{_≡_};
 ghost use Rattle.std.specs.Results.{mapped};
-ghost use Rattle.claims.specs.Laws.{verdict-between};
-ghost use Rattle.pairs.specs.Accounts.{account, prepared, verdict-on-bytes};
+ghost use Rattle.claims.specs.Laws.{VerdictLaw, verdict-between};
+ghost use Rattle.pairs.specs.Accounts.{account, account-of-case, prepared, verdict-on-bytes};
 ghost use Rattle.pairs.specs.Prepared.{prepared-of};
 use crate::splitting::Pair;
 use claims::Case;
@@ -62,8 +62,10 @@ fn judged(first: Prepared, second: Prepared) -> Option<Result<Verdict, Fault>>
 }
 
 // The verdict on two cases, or its refusal; none where an order, a pile or a survey is refused.
+// `law` says what it means: two cases are told apart exactly where their bands share no number, and never where one polynomial fits both.
 pub fn verdict(pair: Pair) -> Option<Result<Verdict, Fault>>
-    ensures { λ r. ⌜ r ≡ verdict-on-bytes (now (pair .entry .«first_order»)) (now (pair .entry .«first_survey»)) (now (pair .entry .«second_order»)) (now (pair .entry .«second_survey»)) ⌝ }
+    ensures value { λ r. ⌜ r ≡ verdict-on-bytes (now (pair .entry .«first_order»)) (now (pair .entry .«first_survey»)) (now (pair .entry .«second_order»)) (now (pair .entry .«second_survey»)) ⌝ }
+    ensures law { λ r. ⌜ VerdictLaw (account-of-case (now (pair .entry .«first_order»)) (now (pair .entry .«first_survey»))) (account-of-case (now (pair .entry .«second_order»)) (now (pair .entry .«second_survey»))) r ⌝ }
 {
     let Ok(first) = prepare(pair.first_order, pair.first_survey) else {
         return None;
