@@ -1,5 +1,6 @@
+use mathlib.Core.Path.{refl}
 use Rattle.figures.proofs.Computed.{figures-hold}
 use Rattle.figures.proofs.figures_hold.Needs as need
 
 pub returns : need.returns
-returns c = figures-hold
+returns c = record { reply = refl; figures = figures-hold }
