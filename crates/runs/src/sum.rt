@@ -4,6 +4,7 @@ ghost use mathlib.Core.Path.{_≡_};
 ghost use Prim.Native.Nat.{_^_, _≤_};
 ghost use lib.IntN.{ℤ, _*ℤ_, natAbs};
 ghost use Rattle.std.specs.declared.option.Option.the-variants.{Some, None};
+ghost use Rattle.algebra.specs.Sums.{abs};
 ghost use Rattle.runs.specs.Totals.{lacks, value-of, fault-at, total-of};
 use crate::band::Band;
 use rules::Cause;
@@ -34,6 +35,14 @@ fn term(weight: i64, reading: Option<i64>) -> Option<i64>
     Some(weight * reading?)
 }
 
+// What a station adds to the sum of the absolute weights.
+fn magnitude(weight: i64) -> i64
+    requires { ⌜ natAbs weight ≤ 2 ^ 40 ⌝ }
+    ensures { λ r. ⌜ r ≡ abs weight ⌝ }
+{
+    weight.abs()
+}
+
 // The weighted sum of the readings, with the radius of its band. It is refused at the first station of nonzero weight that has no reading.
 pub fn total<R: Rule, S: Source>(rule: &R, source: &S) -> Result<Band, Fault>
     ensures { λ r. ⌜ r ≡ total-of (R·Rule .meaning (now (rule .entry))) (S·Source .meaning (now (source .entry))) ⌝ }
@@ -46,7 +55,7 @@ pub fn total<R: Rule, S: Source>(rule: &R, source: &S) -> Result<Band, Fault>
             return Err(fault(Cause::EmptyStation, station));
         };
         sum += term;
-        size += weight.abs();
+        size += magnitude(weight);
     }
     Ok(Band {
         value: (sum, rule.denominator()),

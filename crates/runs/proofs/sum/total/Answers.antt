@@ -55,8 +55,8 @@ add-sum g c =
     (c .loop-station .sum) (c .in-Some .term) (c .reading .result) (sym (c .loop-station .sum-is) ∙ c .loop-station .inv .1) (c .reading .ensures) (c .in-Some .ensures tt) in
     simp (toZ-ofZ, c .loop-station .sum-is) (omega (arith, ints, step .2))
 
-pub abs-size-requires : need.abs-size-requires
-abs-size-requires g c κs =
+pub magnitude-size-requires : need.magnitude-size-requires
+magnitude-size-requires g c κs =
     let fits : SFits w64 (c .weight-weight .result) = search needs in
     let small = weight-bound (g .R·Rule .meaning (c .args .rule .now)) (g .R·Rule·met .sound (c .args .rule .now)) (c .loop-station .station) in
     simp toZ-ofZ (omega (arith, ints, ap natAbs (c .weight-weight .ensures), small))
@@ -65,10 +65,10 @@ pub add-size : need.add-size
 add-size g c =
     let sound = g .R·Rule·met .sound (c .args .rule .now) in
     let weight : SFits w64 (c .weight-weight .result) = search needs in
-    let fits : SFits w64 (c .abs-size .result) = search needs in
+    let fits : SFits w64 (c .magnitude-size .result) = search needs in
     let step = size-step (g .R·Rule .meaning (c .args .rule .now)) sound (c .loop-station .station)
     (omega (arith, c .loop-station-test .taken, c .span-station-end .ensures, sound .span .stations)) _ (toZ-ofZ w64 (c .weight-weight .result) weight ∙ c .weight-weight .ensures)
-    (c .loop-station .size) (c .abs-size .result) (sym (c .loop-station .size-is) ∙ c .loop-station .inv .2) (c .abs-size .ensures .value) in
+    (c .loop-station .size) (c .magnitude-size .result) (sym (c .loop-station .size-is) ∙ c .loop-station .inv .2) (c .magnitude-size .ensures) in
     simp (toZ-ofZ, c .loop-station .size-is) (omega (arith, ints, step .1))
 
 pub loop-station-again : need.loop-station-again
@@ -82,11 +82,11 @@ loop-station-again g c =
     let is = toZ-ofZ w64 (c .weight-weight .result) weight ∙ c .weight-weight .ensures in
     let added = sum-step m sound n within _ is r (g .S·Source·met .sound (c .args .source .now))
     (c .loop-station .sum) (c .in-Some .term) (c .reading .result) (sym (c .loop-station .sum-is) ∙ c .loop-station .inv .1) (c .reading .ensures) (c .in-Some .ensures tt) in
-    let sized = size-step m sound n within _ is (c .loop-station .size) (c .abs-size .result) (sym (c .loop-station .size-is) ∙ c .loop-station .inv .2) (c .abs-size .ensures .value) in
+    let sized = size-step m sound n within _ is (c .loop-station .size) (c .magnitude-size .result) (sym (c .loop-station .size-is) ∙ c .loop-station .inv .2) (c .magnitude-size .ensures) in
     let a : SFits w64 (c .in-Some .term) = search needs in
-    let b : SFits w64 (c .abs-size .result) = search needs in
+    let b : SFits w64 (c .magnitude-size .result) = search needs in
     let e : SFits w64 (c .loop-station .sum +ℤ c .in-Some .term) = omega (arith, ints, added .2) in
-    let f : SFits w64 (c .loop-station .size +ℤ c .abs-size .result) = omega (arith, ints, sized .1) in (
+    let f : SFits w64 (c .loop-station .size +ℤ c .magnitude-size .result) = omega (arith, ints, sized .1) in (
       first-more (λ s. lacks (m .weighting .weight s) (r .reading s)) n (c .loop-station .inv .0) (added .0),
       simp (toZ-ofZ, c .loop-station .sum-is) (added .1),
       simp (toZ-ofZ, c .loop-station .size-is) (sized .0),
