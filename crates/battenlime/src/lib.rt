@@ -1,4 +1,6 @@
 // The library for callers in C and Rust: sessions, rules, runs and verdicts on numbers, bytes and buffers.
+#![tactic(auto)]
+
 mod records;
 mod replays;
 mod sessions;

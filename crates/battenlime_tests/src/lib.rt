@@ -1,4 +1,6 @@
 // The calls for C and Rust on examples: lines, numbers, weights, replies and verdicts, buffers around the length needed, and refusals.
+#![tactic(auto)]
+
 #[cfg(test)]
 mod tests {
     use battenlime::{

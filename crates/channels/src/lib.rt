@@ -1,4 +1,6 @@
 // Records of readings of several kinds, and channels that tell one component of each record as a source.
+#![tactic(auto)]
+
 mod channel;
 mod force;
 mod kind;

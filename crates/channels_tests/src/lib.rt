@@ -1,4 +1,6 @@
 // Examples of reading kinds and channels, a kind of a user's own among them.
+#![tactic(auto)]
+
 mod pressure;
 
 use channels::ReadingKind;

@@ -1,4 +1,6 @@
 // The law over whole runs: a case replayed, and two cases settled.
+#![tactic(auto)]
+
 mod figures;
 mod one_case;
 mod two_cases;

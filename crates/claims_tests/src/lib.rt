@@ -1,4 +1,6 @@
 // Two callers over one beam load: what each is replied, and whether their results can be of one load.
+#![tactic(auto)]
+
 #[cfg(test)]
 mod tests {
     use claims::{Case, Settlement, replay, settle};

@@ -1,4 +1,6 @@
 // Figures of rules, polynomials, runs and verdicts, proved from their definitions.
+#![tactic(auto)]
+
 ghost use Rattle.std.specs.Prelude.{◌≡◌, true};
 ghost use Rattle.figures.specs.Figures.{FiguresHold};
 

@@ -1,4 +1,6 @@
 // Layers: rules made of any rule below, and piles of layers.
+#![tactic(auto)]
+
 mod divisor;
 mod fill;
 mod layer;

@@ -1,4 +1,6 @@
 // Layers on a rule of a type of its own and on the built-in rules, against figures that were found apart from the code.
+#![tactic(auto)]
+
 mod own_rule;
 
 pub use own_rule::Lopsided;

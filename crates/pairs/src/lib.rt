@@ -1,4 +1,6 @@
 // Two differing integrals: two cases in one input, the verdict on them, and its line of text.
+#![tactic(auto)]
+
 mod cases;
 mod lines;
 mod splitting;

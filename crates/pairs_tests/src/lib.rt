@@ -1,4 +1,6 @@
 // Two cases in one input: how it is split, and the three lines that it gives.
+#![tactic(auto)]
+
 #[cfg(test)]
 mod tests {
     use pairs::{split, verdict, write_verdict};

@@ -1,4 +1,6 @@
 // Reads an order and a survey from standard input and prints the report.
+#![tactic(auto)]
+
 use session::answer;
 use std::io;
 use std::io::{Read, Write};

@@ -1,4 +1,6 @@
 // The one-line report of a session, written into a buffer of the caller's.
+#![tactic(auto)]
+
 mod line;
 mod reports;
 mod written;

@@ -1,4 +1,6 @@
 // Examples of the lines of a report and of buffers around their length.
+#![tactic(auto)]
+
 #[cfg(test)]
 mod tests {
     use report::{Written, write_refusal, write_result};

@@ -35,7 +35,7 @@ absolute_more n W =
 
 -- a power of a natural number is one
 pub power_natural : (s k : ℕ) → pos s ^ℤ k ≡ pos (s ^ k)
-power_natural s zero = pow_zero (pos s) ∙ ap pos (sym (nat.pow_zero s))
+power_natural s zero = pow_zero (pos s) ∙ ap pos (sym (nat.pow-zero s))
 power_natural s (suc k) =
     pow_suc (pos s) k ∙ ap (λ t. pos s *ℤ t) (power_natural s k) ∙ ap pos (sym (pow-succ' s k))
 

@@ -1,4 +1,6 @@
 // Integration rules with whole-number weights: what a rule is and promises, the rules that are built in, the rule that is written as a list of weights, and the table that a layered rule is.
+#![tactic(auto)]
+
 mod built_in;
 mod fault;
 mod rule;

@@ -1,4 +1,6 @@
 // Runs: readings gathered for a rule, the weighted sum that they give with its band, and the verdict on two of them.
+#![tactic(auto)]
+
 mod band;
 mod band_end;
 mod call;

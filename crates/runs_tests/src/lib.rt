@@ -1,4 +1,6 @@
 // Results and verdicts at their edges, and every refusal of a run. The expected figures are computed by hand from the weights.
+#![tactic(auto)]
+
 #[cfg(test)]
 mod tests {
     use layers::refine;

@@ -1,4 +1,6 @@
 // A session: an order and a survey as bytes in, one line of text out.
+#![tactic(auto)]
+
 mod order;
 mod session;
 

@@ -1,4 +1,6 @@
 // Examples of sessions: results, every refusal that a session can give, the largest figures, and buffers around the length of a line.
+#![tactic(auto)]
+
 #[cfg(test)]
 mod tests {
     use report::{Written, write_refusal};

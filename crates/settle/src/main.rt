@@ -1,4 +1,6 @@
 // Reads two cases from standard input and prints the report of each and the verdict on them.
+#![tactic(auto)]
+
 use pairs::{split, verdict, write_verdict};
 use session::report;
 use std::io;

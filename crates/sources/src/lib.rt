@@ -1,4 +1,6 @@
 // Sources of readings: what a source tells, a part-filled row of readings, and the sources that are built in.
+#![tactic(auto)]
+
 mod checks;
 mod either;
 mod polynomial;

@@ -1,4 +1,6 @@
 // Edge cases of the sources, as tables.
+#![tactic(auto)]
+
 #[cfg(test)]
 mod tests {
     use rules::Fault;

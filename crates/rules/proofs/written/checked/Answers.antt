@@ -11,11 +11,11 @@ tabled-requires c =
     let limit : c.args.denominator ≤ 1048576 = omega arith in
     let low : c.args.degree ≤ 9 = omega arith in
     let small : absolute_sum_lem c.args.weights.now ≤ 1048576 = omega arith in
-    let exact : first_failing (suc c.args.degree) (integrates c.args.weights.now c.args.denominator) ≡ None = sym c.in-default.ensures in
+    let exact : first_failing (suc c.args.degree) (integrates c.args.weights.now c.args.denominator) ≡ None = sym c.in_default.ensures in
     record {
       few = few;
       sound =
-          accepted_at c.args.weights.now c.args.denominator c.args.degree c.degree-of.result c.is-mirrored-symmetric.result c.absolute-sum-ceiling.result
+          accepted_at c.args.weights.now c.args.denominator c.args.degree c.degree_of.result c.is_mirrored-symmetric.result c.absolute-sum-ceiling.result
           (accepted_sound c.args.weights.now c.args.denominator c.args.degree least few one limit low small exact)
-          c.is-mirrored-symmetric.ensures c.degree-of.ensures c.absolute-sum-ceiling.ensures;
+          c.is_mirrored-symmetric.ensures c.degree_of.ensures c.absolute-sum-ceiling.ensures;
     }

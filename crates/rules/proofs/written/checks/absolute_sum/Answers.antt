@@ -10,5 +10,5 @@ loop-weight-init c = (absolute_none (weight_in c.args.weights.now), omega arith)
 pub loop-weight-preserved : goal.loop-weight-preserved
 loop-weight-preserved c =
     let fits : SFits w64 (weight_in c.args.weights.now c.loop-weight.weight-index) = search rules in
-    let e = c.unsigned-abs.ensures.value ∙ ap nat_abs (to_z-of_z w64 _ fits) in
+    let e = c.unsigned_abs.ensures.value ∙ ap nat_abs (to_z-of_z w64 _ fits) in
     (ap₂ ◌+◌ c.loop-weight.invariant.0 e ∙ absolute_more c.loop-weight.weight-index (weight_in c.args.weights.now), omega arith)

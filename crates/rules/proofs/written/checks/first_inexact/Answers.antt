@@ -9,7 +9,7 @@ returns-then-not-is-exact c =
 
 pub loop-power-preserved : goal.loop-power-preserved
 loop-power-preserved c =
-    failing_more c.loop-power.power (integrates c.args.weights.now c.args.denominator) c.loop-power.invariant (sym c.if-not-is-exact.ensures)
+    failing_more c.loop-power.power (integrates c.args.weights.now c.args.denominator) c.loop-power.invariant (sym c.if-not-is_exact.ensures)
 
 pub returns : goal.returns
 returns c =

@@ -18,12 +18,12 @@ overflow-mul-weighted c =
     let fits : SFits w64 c.moment.result = search rules in
     left_fits c.args.weights.now c.args.power c.moment.result c.requires.few c.requires.low c.requires.small fits c.moment.ensures
 
-right_is : (c : goal.After-station-power) → to_z w64 c.args.denominator *ℤ to_z w64 (of_z w64 c.station-power.result) ≡ pos c.args.denominator *ℤ (pos (last_station c.args.weights.now) ^ℤ suc c.args.power)
+right_is : (c : goal.After-station_power) → to_z w64 c.args.denominator *ℤ to_z w64 (of_z w64 c.station_power.result) ≡ pos c.args.denominator *ℤ (pos (last_station c.args.weights.now) ^ℤ suc c.args.power)
 right_is c =
-    let fits : SFits w64 c.station-power.result = search rules in
+    let fits : SFits w64 c.station_power.result = search rules in
     let next : c.args.power + 1 ≡ suc c.args.power = omega arith in
     ap₂ ◌*ℤ◌ (to_z_pos w64 c.args.denominator (omega arith))
-    (to_z-of_z w64 _ fits ∙ c.station-power.ensures ∙ ap (λ k. pos (last_station c.args.weights.now) ^ℤ k) next)
+    (to_z-of_z w64 _ fits ∙ c.station_power.ensures ∙ ap (λ k. pos (last_station c.args.weights.now) ^ℤ k) next)
 
 pub overflow-mul-result : goal.overflow-mul-result
 overflow-mul-result c =

@@ -7,22 +7,22 @@ use Rattle.rules.proofs.Loading.{small_fits, next_small, moment_more}
 use Rattle.rules.proofs.written.checks.moment.Goals as goal
 
 -- the term of the turn, by its station
-abbrev term : goal.After-station-power → ℤ
+abbrev term : goal.After-station_power → ℤ
 term c = weight_in c.args.weights.now c.loop-station.station *ℤ (pos c.loop-station.station ^ℤ c.args.power)
 
-abbrev so_far : goal.After-station-power → ℤ
+abbrev so_far : goal.After-station_power → ℤ
 so_far c = sum c.loop-station.station (λ s. weight_in c.args.weights.now s *ℤ (pos s ^ℤ c.args.power))
 
-small : (c : goal.After-station-power) → (nat_abs (term c) ≤ 2 ^ 62) × (nat_abs (so_far c +ℤ term c) ≤ 2 ^ 62)
+small : (c : goal.After-station_power) → (nat_abs (term c) ≤ 2 ^ 62) × (nat_abs (so_far c +ℤ term c) ≤ 2 ^ 62)
 small c =
     next_small c.loop-station.station (length c.args.weights.now) (weight_in c.args.weights.now) c.args.power
     c.loop-station-test.true c.requires.few c.requires.low c.requires.small
 
-term_is : (c : goal.After-station-power) → to_z w64 (of_z w64 (weight_in c.args.weights.now c.loop-station.station)) *ℤ to_z w64 (of_z w64 c.station-power.result) ≡ term c
+term_is : (c : goal.After-station_power) → to_z w64 (of_z w64 (weight_in c.args.weights.now c.loop-station.station)) *ℤ to_z w64 (of_z w64 c.station_power.result) ≡ term c
 term_is c =
     let fits : SFits w64 (weight_in c.args.weights.now c.loop-station.station) = search rules in
-    let power-fits : SFits w64 c.station-power.result = search rules in
-    ap₂ ◌*ℤ◌ (to_z-of_z w64 _ fits) (to_z-of_z w64 _ power-fits ∙ c.station-power.ensures)
+    let power-fits : SFits w64 c.station_power.result = search rules in
+    ap₂ ◌*ℤ◌ (to_z-of_z w64 _ fits) (to_z-of_z w64 _ power-fits ∙ c.station_power.ensures)
 
 pub loop-station-init : goal.loop-station-init
 loop-station-init c = sym (sum_none (λ s. weight_in c.args.weights.now s *ℤ (pos s ^ℤ c.args.power)))

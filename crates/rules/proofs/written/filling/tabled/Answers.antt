@@ -12,5 +12,5 @@ table-of-requires c =
 
 pub returns : goal.returns
 returns c =
-    c.table-of.ensures
+    c.table_of.ensures
     ∙ telling_same (last_station c.args.weights.now) c.args.denominator c.args.degree c.args.symmetric c.args.ceiling (weight_in c.spread.result) (weight_in c.args.weights.now) c.spread.ensures
