@@ -13,13 +13,13 @@ returns g c =
     let other = result_map_both account_of (λ e. e) c.replay-second.result in
     let ones = map (entry_of g.S.Source.meaning) c.args.first.calls.now in
     let others = map (entry_of g.T.Source.meaning) c.args.second.calls.now in
-    let first-replies = c.replay-first.ensures.replies ∙ ap (λ t. replies_left t ones c.args.first-replies.now) (sym c.replay-first.ensures.account) in
-    let second-replies = c.replay-second.ensures.replies ∙ ap (λ t. replies_left t others c.args.second-replies.now) (sym c.replay-second.ensures.account) in
+    let first-replies = c.replay-first.ensures.replies ∙ ap (λ t. replies_left t ones c.args.first_replies.now) (sym c.replay-first.ensures.account) in
+    let second-replies = c.replay-second.ensures.replies ∙ ap (λ t. replies_left t others c.args.second_replies.now) (sym c.replay-second.ensures.account) in
     let first-law =
-    case_law_of (g.A.Rule.meaning c.args.first.bottom) c.args.first.layers.now ones c.args.first-replies.now one c.replay-first.new.replies
+    case_law_of (g.A.Rule.meaning c.args.first.bottom) c.args.first.layers.now ones c.args.first_replies.now one c.replay-first.new.replies
     (g.met.A.Rule.sound c.args.first.bottom) c.replay-first.ensures.account first-replies in
     let second-law =
-    case_law_of (g.B.Rule.meaning c.args.second.bottom) c.args.second.layers.now others c.args.second-replies.now other c.replay-second.new.replies
+    case_law_of (g.B.Rule.meaning c.args.second.bottom) c.args.second.layers.now others c.args.second_replies.now other c.replay-second.new.replies
     (g.met.B.Rule.sound c.args.second.bottom) c.replay-second.ensures.account second-replies in
     record {
       first = c.replay-first.ensures.account;

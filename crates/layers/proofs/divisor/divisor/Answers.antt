@@ -9,9 +9,9 @@ loop-station-preserved g c =
     let m = g.R.Rule.meaning c.args.below.now in
     let D = m.weighting.denominator in
     let W = m.weighting.weight in
-    let bits : c.unsigned-abs.result ≡ nat_abs (W c.loop-station.station) =
-    omega (arith, ints, c.unsigned-abs.ensures, c.weight.ensures) in
-    c.greatest-common-found.ensures ∙ ap (λ t. gcd t c.unsigned-abs.result) c.loop-station.invariant ∙
+    let bits : c.unsigned_abs.result ≡ nat_abs (W c.loop-station.station) =
+    omega (arith, ints, c.unsigned_abs.ensures, c.weight.ensures) in
+    c.greatest_common-found.ensures ∙ ap (λ t. gcd t c.unsigned_abs.result) c.loop-station.invariant ∙
     ap (λ t. gcd (common_divisor D c.loop-station.station W) t) bits ∙ ap (λ t. common_divisor D t W) (sym (add-one c.loop-station.station))
 
 pub returns : goal.returns

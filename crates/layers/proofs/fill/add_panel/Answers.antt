@@ -8,8 +8,8 @@ pub loop-station-init : goal.loop-station-init
 loop-station-init g c =
     (added_none c.args.weights.now (g.R.Rule.meaning c.args.below.now).weighting.weight c.args.first, search rules)
 
-pub overflow-add-weights-in-loop-station : goal.overflow-add-weights-in-loop-station
-overflow-add-weights-in-loop-station g c =
+pub overflow_add-weights-in-loop-station : goal.overflow_add-weights-in-loop-station
+overflow_add-weights-in-loop-station g c =
     let m = g.R.Rule.meaning c.args.below.now in
     let at = c.args.first + c.loop-station.station in
     let e : ℕ → ℤ = λ s. get_or c.args.weights.now s (pos 0) in

@@ -5,8 +5,8 @@ use mir.Facts.{to_z_pos}
 use Rattle.layers.proofs.Filling.{scaled_bound}
 use Rattle.layers.proofs.fill.combination.Goals as goal
 
-pub overflow-mul-result : goal.overflow-mul-result
-overflow-mul-result c =
+pub overflow_mul-result : goal.overflow_mul-result
+overflow_mul-result c =
     let l : SFits w64 c.args.left = c.ranges.left in
     let r : SFits w64 c.args.right = c.ranges.right in
     let s : SFits w64 c.args.coarse = c.ranges.coarse in
@@ -15,8 +15,8 @@ overflow-mul-result c =
     simp (to_z-of_z, to_z_pos)
     (omega (arith, ints, scaled_bound c.args.factor (2 ^ 41) 2048 (c.args.left +ℤ c.args.right) c.requires.0 (omega (arith, ints, c.requires))))
 
-pub overflow-sub-result : goal.overflow-sub-result
-overflow-sub-result c =
+pub overflow_sub-result : goal.overflow_sub-result
+overflow_sub-result c =
     let l : SFits w64 c.args.left = c.ranges.left in
     let r : SFits w64 c.args.right = c.ranges.right in
     let s : SFits w64 c.args.coarse = c.ranges.coarse in

@@ -4,8 +4,8 @@ use Rattle.std.proofs.lemmas.Bool.{cond-true, eq-eqb}
 use Rattle.rules.proofs.Bounds.{weight_bound}
 use Rattle.layers.proofs.fill.doubled_weight.Goals as goal
 
-pub overflow-mul-result : goal.overflow-mul-result
-overflow-mul-result g c =
+pub overflow_mul-result : goal.overflow_mul-result
+overflow_mul-result g c =
     omega (arith, ints, weight_bound (g.R.Rule.meaning c.args.below.now) (g.met.R.Rule.sound c.args.below.now) (c.args.station / 2), c.weight.ensures)
 
 pub returns-then-station-eq0 : goal.returns-then-station-eq0

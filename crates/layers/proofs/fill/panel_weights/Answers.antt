@@ -9,8 +9,8 @@ loop-panel-init g c =
     let m = g.R.Rule.meaning c.args.below.now in
     panels_none m.span m.weighting.weight
 
-pub add-panel-requires : goal.add-panel-requires
-add-panel-requires g c =
+pub add_panel-requires : goal.add_panel-requires
+add_panel-requires g c =
     let m = g.R.Rule.meaning c.args.below.now in
     let sound = g.met.R.Rule.sound c.args.below.now in (
       omega (arith, c.requires, panel_ends c.loop-panel.panel c.args.count m.span c.loop-panel-test.true, ap (λ t. c.loop-panel.panel * t) c.span-span.ensures),
@@ -21,9 +21,9 @@ add-panel-requires g c =
 pub loop-panel-preserved : goal.loop-panel-preserved
 loop-panel-preserved g c =
     let m = g.R.Rule.meaning c.args.below.now in
-    panels_more c.loop-panel.weights c.add-panel.new.weights c.loop-panel.panel m.span m.weighting.weight c.loop-panel.invariant
+    panels_more c.loop-panel.weights c.add_panel.new.weights c.loop-panel.panel m.span m.weighting.weight c.loop-panel.invariant
     (λ s.
-    c.add-panel.ensures s ∙ ap (λ t. get_or c.loop-panel.weights s (pos 0) +ℤ shifted m.weighting.weight (c.loop-panel.panel * t) s) c.span-span.ensures)
+    c.add_panel.ensures s ∙ ap (λ t. get_or c.loop-panel.weights s (pos 0) +ℤ shifted m.weighting.weight (c.loop-panel.panel * t) s) c.span-span.ensures)
 
 pub returns : goal.returns
 returns g c =

@@ -19,8 +19,8 @@ combination-requires g c =
       (
         omega (arith, ints, c.weight-left.ensures, b c.loop-station.station),
         (
-          omega (arith, ints, c.shifted-weight-right.ensures, shifted_bound m.weighting.weight (2 ^ 40) c.span-span.result c.loop-station.station b),
-          omega (arith, ints, c.doubled-weight.ensures, stretch_bound 2 (2 ^ 40) m.weighting.weight c.loop-station.station b),
+          omega (arith, ints, c.shifted_weight-right.ensures, shifted_bound m.weighting.weight (2 ^ 40) c.span-span.result c.loop-station.station b),
+          omega (arith, ints, c.doubled_weight.ensures, stretch_bound 2 (2 ^ 40) m.weighting.weight c.loop-station.station b),
         ),
       ),
     )
@@ -30,19 +30,19 @@ loop-station-preserved g c =
     let m = g.R.Rule.meaning c.args.below.now in
     let fits : SFits w64 c.combination.result = search rules in
     let left : SFits w64 c.weight-left.result = search rules in
-    let right : SFits w64 c.shifted-weight-right.result = search rules in
-    let coarse : SFits w64 c.doubled-weight.result = search rules in
+    let right : SFits w64 c.shifted_weight-right.result = search rules in
+    let coarse : SFits w64 c.doubled_weight.result = search rules in
     let W = m.weighting.weight in
     let s = c.loop-station.station in
-    let is : c.combination.result ≡ (pos c.args.factor *ℤ (c.weight-left.result +ℤ c.shifted-weight-right.result)) -ℤ c.doubled-weight.result =
+    let is : c.combination.result ≡ (pos c.args.factor *ℤ (c.weight-left.result +ℤ c.shifted_weight-right.result)) -ℤ c.doubled_weight.result =
     simp to_z-of_z at c.combination.ensures in
-    let second : c.shifted-weight-right.result ≡ shifted W m.span s =
-    c.shifted-weight-right.ensures ∙ ap (λ t. shifted W t s) c.span-span.ensures in
+    let second : c.shifted_weight-right.result ≡ shifted W m.span s =
+    c.shifted_weight-right.ensures ∙ ap (λ t. shifted W t s) c.span-span.ensures in
     simp to_z-of_z
     (filled_more c.loop-station.weights s (refine_weight c.args.factor m.span W) c.combination.result (omega (arith, c.requires, c.span-span.ensures, c.loop-station-test.true))
-    (is ∙ ap (λ t. (pos c.args.factor *ℤ (t +ℤ c.shifted-weight-right.result)) -ℤ c.doubled-weight.result) c.weight-left.ensures ∙
-    ap (λ t. (pos c.args.factor *ℤ (W s +ℤ t)) -ℤ c.doubled-weight.result) second ∙
-    ap (λ t. (pos c.args.factor *ℤ (W s +ℤ shifted W m.span s)) -ℤ t) c.doubled-weight.ensures)
+    (is ∙ ap (λ t. (pos c.args.factor *ℤ (t +ℤ c.shifted_weight-right.result)) -ℤ c.doubled_weight.result) c.weight-left.ensures ∙
+    ap (λ t. (pos c.args.factor *ℤ (W s +ℤ t)) -ℤ c.doubled_weight.result) second ∙
+    ap (λ t. (pos c.args.factor *ℤ (W s +ℤ shifted W m.span s)) -ℤ t) c.doubled_weight.ensures)
     c.loop-station.invariant)
 
 pub returns : goal.returns

@@ -11,13 +11,13 @@ use Rattle.layers.proofs.fill.stretch_weights.Goals as goal
 pub loop-station-init : goal.loop-station-init
 loop-station-init g c = rw mul-zero (filled_none (stretch_weight c.args.count (g.R.Rule.meaning c.args.below.now).weighting.weight))
 
-pub overflow-cast-weights : goal.overflow-cast-weights
-overflow-cast-weights g c =
+pub overflow_cast-weights : goal.overflow_cast-weights
+overflow_cast-weights g c =
     let m = g.R.Rule.meaning c.args.below.now in
     omega (arith, ints, few_panels c.args.count m.span (g.met.R.Rule.sound c.args.below.now).span.least c.requires.1)
 
-pub overflow-mul-weights : goal.overflow-mul-weights
-overflow-mul-weights g c =
+pub overflow_mul-weights : goal.overflow_mul-weights
+overflow_mul-weights g c =
     let m = g.R.Rule.meaning c.args.below.now in
     let sound = g.met.R.Rule.sound c.args.below.now in
     let few = few_panels c.args.count m.span sound.span.least c.requires.1 in
@@ -30,13 +30,13 @@ overflow-mul-weights g c =
 inside : (count station span : ℕ) → station < span + 1 → count * span ≤ 1024 → count * station ≤ 1024
 inside count station span h k = let le : station ≤ span = omega arith in omega (arith, mul-le-mul_left count le)
 
-pub overflow-mul-weights-in-loop-station : goal.overflow-mul-weights-in-loop-station
-overflow-mul-weights-in-loop-station g c =
+pub overflow_mul-weights-in-loop-station : goal.overflow_mul-weights-in-loop-station
+overflow_mul-weights-in-loop-station g c =
     let m = g.R.Rule.meaning c.args.below.now in
     omega (arith, inside c.args.count c.loop-station.station m.span (omega (arith, c.span-station-end.ensures)) c.requires.1)
 
-pub offset-bounds-weights-count : goal.offset-bounds-weights-count
-offset-bounds-weights-count g c =
+pub offset_bounds-weights-count : goal.offset_bounds-weights-count
+offset_bounds-weights-count g c =
     let m = g.R.Rule.meaning c.args.below.now in
     omega (arith, inside c.args.count c.loop-station.station m.span (omega (arith, c.span-station-end.ensures)) c.requires.1)
 

@@ -6,6 +6,6 @@ pub returns : goal.returns
 returns g c =
     let m = g.R.Rule.meaning c.args.below in
     record {
-      value = c.lay-lowest-terms.ensures;
+      value = c.lay_lowest_terms.ensures;
       greatest = common_divisor_greatest m.weighting.denominator (suc m.span) m.weighting.weight;
     }

@@ -23,9 +23,9 @@ table-requires g c =
     let sound = g.met.R.Rule.sound c.args.below in
     let d = c.divisor-divisor.result in
     let is = c.divisor-divisor.ensures.value in
-    tells_sound (reduced m) c.divided.result c.reduce-weights-weights.result c.is-symmetric.result (made_sound LowestTerms m sound (lowest_terms_accepted m sound))
-    (sizes_are m d c.divided.result c.reduce-weights-weights.result is c.divided.ensures c.reduce-weights-weights.ensures) c.is-symmetric.ensures
-    (weights_are m d c.divided.result c.reduce-weights-weights.result is c.divided.ensures c.reduce-weights-weights.ensures)
+    tells_sound (reduced m) c.divided.result c.reduce_weights-weights.result c.is_symmetric.result (made_sound LowestTerms m sound (lowest_terms_accepted m sound))
+    (sizes_are m d c.divided.result c.reduce_weights-weights.result is c.divided.ensures c.reduce_weights-weights.ensures) c.is_symmetric.ensures
+    (weights_are m d c.divided.result c.reduce_weights-weights.result is c.divided.ensures c.reduce_weights-weights.ensures)
 
 pub returns : goal.returns
 returns g c =
@@ -33,6 +33,6 @@ returns g c =
     let d = c.divisor-divisor.result in
     let is = c.divisor-divisor.ensures.value in
     c.table.ensures ∙
-    tells_made (reduced m) c.divided.result c.reduce-weights-weights.result c.is-symmetric.result refl
-    (sizes_are m d c.divided.result c.reduce-weights-weights.result is c.divided.ensures c.reduce-weights-weights.ensures) c.is-symmetric.ensures
-    (weights_are m d c.divided.result c.reduce-weights-weights.result is c.divided.ensures c.reduce-weights-weights.ensures)
+    tells_made (reduced m) c.divided.result c.reduce_weights-weights.result c.is_symmetric.result refl
+    (sizes_are m d c.divided.result c.reduce_weights-weights.result is c.divided.ensures c.reduce_weights-weights.ensures) c.is_symmetric.ensures
+    (weights_are m d c.divided.result c.reduce_weights-weights.result is c.divided.ensures c.reduce_weights-weights.ensures)

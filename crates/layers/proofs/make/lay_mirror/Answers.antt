@@ -9,5 +9,5 @@ pub table-requires : goal.table-requires
 table-requires g c =
     let m = g.R.Rule.meaning c.args.below in
     let sound = g.met.R.Rule.sound c.args.below in
-    tells_sound (mirrored m) c.unchanged.result c.mirror-weights-weights.result c.is-symmetric.result (made_sound Mirror m sound (mirror_accepted m sound))
-    c.unchanged.ensures c.is-symmetric.ensures c.mirror-weights-weights.ensures
+    tells_sound (mirrored m) c.unchanged.result c.mirror_weights-weights.result c.is_symmetric.result (made_sound Mirror m sound (mirror_accepted m sound))
+    c.unchanged.ensures c.is_symmetric.ensures c.mirror_weights-weights.ensures

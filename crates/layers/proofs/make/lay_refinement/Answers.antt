@@ -13,10 +13,10 @@ table_holds m ws d f ed ef h s = h s ∙ ap (λ t. refine_weight t m.span m.weig
 
 pub table-requires : goal.table-requires
 table-requires g c =
-    table_sound Refinement c.args.place (g.R.Rule.meaning c.args.below) c.in-ok-sizes.sizes c.refine-weights-weights.result c.is-symmetric.result
-    (sym c.in-ok-sizes.ensures) c.is-symmetric.ensures (table_holds (g.R.Rule.meaning c.args.below) c.refine-weights-weights.result c.degree.result c.factor.result c.degree.ensures c.factor.ensures.value c.refine-weights-weights.ensures) (g.met.R.Rule.sound c.args.below)
+    table_sound Refinement c.args.place (g.R.Rule.meaning c.args.below) c.in_ok-sizes.sizes c.refine_weights-weights.result c.is_symmetric.result
+    (sym c.in_ok-sizes.ensures) c.is_symmetric.ensures (table_holds (g.R.Rule.meaning c.args.below) c.refine_weights-weights.result c.degree.result c.factor.result c.degree.ensures c.factor.ensures.value c.refine_weights-weights.ensures) (g.met.R.Rule.sound c.args.below)
 
 pub returns : goal.returns
 returns g c =
-    table_made Refinement c.args.place (g.R.Rule.meaning c.args.below) c.in-ok-sizes.sizes c.refine-weights-weights.result c.is-symmetric.result
-    (sym c.in-ok-sizes.ensures) c.is-symmetric.ensures (table_holds (g.R.Rule.meaning c.args.below) c.refine-weights-weights.result c.degree.result c.factor.result c.degree.ensures c.factor.ensures.value c.refine-weights-weights.ensures) _ c.table.ensures
+    table_made Refinement c.args.place (g.R.Rule.meaning c.args.below) c.in_ok-sizes.sizes c.refine_weights-weights.result c.is_symmetric.result
+    (sym c.in_ok-sizes.ensures) c.is_symmetric.ensures (table_holds (g.R.Rule.meaning c.args.below) c.refine_weights-weights.result c.degree.result c.factor.result c.degree.ensures c.factor.ensures.value c.refine_weights-weights.ensures) _ c.table.ensures

@@ -3,5 +3,5 @@ use Rattle.layers.proofs.make.tabled.Goals as goal
 
 pub table-requires : goal.table-requires
 table-requires g c =
-    tells_sound (g.R.Rule.meaning c.args.below) c.unchanged.result c.same-weights-weights.result c.is-symmetric.result
-    (g.met.R.Rule.sound c.args.below) c.unchanged.ensures c.is-symmetric.ensures c.same-weights-weights.ensures
+    tells_sound (g.R.Rule.meaning c.args.below) c.unchanged.result c.same_weights-weights.result c.is_symmetric.result
+    (g.met.R.Rule.sound c.args.below) c.unchanged.ensures c.is_symmetric.ensures c.same_weights-weights.ensures

@@ -10,9 +10,9 @@ returns c =
     let ensured = c.settle-settlement.ensures in
     let first = c.args.first in
     let second = c.args.second in
-    let ones = c.layers-first-count in
-    let others = c.layers-second-count in
+    let ones = c.layers-first_count in
+    let others = c.layers-second_count in
     ensured.verdict ∙
     ap₂ verdict_between
-    (ensured.first ∙ replayed_account _ ones.result.0 ones.result.1 (parts first.order) (surveyed first.survey) c.base-first-base.ensures ones.ensures.listed)
-    (ensured.second ∙ replayed_account _ others.result.0 others.result.1 (parts second.order) (surveyed second.survey) c.base-second-base.ensures others.ensures.listed)
+    (ensured.first ∙ replayed_account _ ones.result.0 ones.result.1 (parts first.order) (surveyed first.survey) c.base-first_base.ensures ones.ensures.listed)
+    (ensured.second ∙ replayed_account _ others.result.0 others.result.1 (parts second.order) (surveyed second.survey) c.base-second_base.ensures others.ensures.listed)

@@ -5,7 +5,7 @@ use Rattle.pairs.proofs.splitting.split.Goals as goal
 pub returns : goal.returns
 returns c =
     let rest = c.cut.ensures.rest in
-    let long = c.survey-bytes.ensures ∙ ap survey_length rest in
+    let long = c.survey_bytes.ensures ∙ ap survey_length rest in
     let second = c.cut-2.ensures.rest ∙ ap₂ drop long rest in
     record {
       first-order = c.cut.ensures.front;

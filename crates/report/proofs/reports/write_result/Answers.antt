@@ -8,7 +8,7 @@ use Rattle.report.proofs.reports.write_result.Goals as goal
 
 pub returns : goal.returns
 returns c =
-    let line : text c.result-line.result ≡ line_of_result c.args.numerator c.args.denominator c.args.degree c.args.radius = search rules in
+    let line : text c.result_line.result ≡ line_of_result c.args.numerator c.args.denominator c.args.degree c.args.radius = search rules in
     let read : 0 < c.deliver.result.len → TheOnly (ResultLine c.args.numerator c.args.denominator c.args.degree c.args.radius) (take c.deliver.result.len c.deliver.new.out) =
     reads_as _ _ _ _ _ _ _ (only_result _ _ _ _ c.ranges.numerator.sfits (omega arith) (omega arith) c.ranges.radius.sfits) line c.deliver.ensures.buffer c.deliver.ensures.report in
     record {

@@ -15,7 +15,7 @@ tabled-requires c =
     record {
       few = few;
       sound =
-          accepted_at c.args.weights.now c.args.denominator c.args.degree c.degree_of.result c.is_mirrored-symmetric.result c.absolute-sum-ceiling.result
+          accepted_at c.args.weights.now c.args.denominator c.args.degree c.degree_of.result c.is_mirrored-symmetric.result c.absolute_sum-ceiling.result
           (accepted_sound c.args.weights.now c.args.denominator c.args.degree least few one limit low small exact)
-          c.is_mirrored-symmetric.ensures c.degree_of.ensures c.absolute-sum-ceiling.ensures;
+          c.is_mirrored-symmetric.ensures c.degree_of.ensures c.absolute_sum-ceiling.ensures;
     }

@@ -25,20 +25,20 @@ term-requires g c =
       λ v e. (g.met.S.Source.sound c.args.source.now).readings c.loop-station.station v (sym c.reading.ensures ∙ e),
     )
 
-pub returns-in-default : goal.returns-in-default
-returns-in-default g c =
+pub returns-in_default : goal.returns-in_default
+returns-in_default g c =
     let m = g.R.Rule.meaning c.args.rule.now in
     let r = g.S.Source.meaning c.args.source.now in
     let n = c.loop-station.station in
     let fits : SFits w64 c.weight-weight.result = search rules in
     let missing = station_missing m.weighting.weight r.reading n _ c.reading.result
-    (to_z-of_z w64 c.weight-weight.result fits ∙ c.weight-weight.ensures) c.reading.ensures c.in-default.ensures in
+    (to_z-of_z w64 c.weight-weight.result fits ∙ c.weight-weight.ensures) c.reading.ensures c.in_default.ensures in
     let found = first_found (λ s. lacks (m.weighting.weight s) (r.reading s)) n m.weighting.stations c.loop-station.invariant.0 missing
     (omega (arith, c.loop-station-test.true, c.span-station-end.ensures, (g.met.R.Rule.sound c.args.rule.now).span.stations)) in
     ap Err c.fault.ensures ∙ sym (ap (λ (o : Option ℕ). given (empty_station Run o) (sum_of m.weighting r)) found)
 
-pub overflow-add-sum : goal.overflow-add-sum
-overflow-add-sum g c =
+pub overflow_add-sum : goal.overflow_add-sum
+overflow_add-sum g c =
     let sound = g.met.R.Rule.sound c.args.rule.now in
     let weight : SFits w64 c.weight-weight.result = search rules in
     let fits : SFits w64 c.in-Some.term = search rules in
@@ -54,8 +54,8 @@ magnitude-size-requires g c =
     let small = weight_bound (g.R.Rule.meaning c.args.rule.now) (g.met.R.Rule.sound c.args.rule.now) c.loop-station.station in
     simp to_z-of_z (omega (arith, ints, ap nat_abs c.weight-weight.ensures, small))
 
-pub overflow-add-size : goal.overflow-add-size
-overflow-add-size g c =
+pub overflow_add-size : goal.overflow_add-size
+overflow_add-size g c =
     let sound = g.met.R.Rule.sound c.args.rule.now in
     let weight : SFits w64 c.weight-weight.result = search rules in
     let fits : SFits w64 c.magnitude-size.result = search rules in
@@ -85,8 +85,8 @@ loop-station-preserved g c =
       simp (to_z-of_z, c.loop-station.size-is) sized.0,
     )
 
-pub overflow-mul-result : goal.overflow-mul-result
-overflow-mul-result g c =
+pub overflow_mul-result : goal.overflow_mul-result
+overflow_mul-result g c =
     let m = g.R.Rule.meaning c.args.rule.now in
     let few = (g.met.S.Source.sound c.args.source.now).tolerance in
     let small : nat_abs c.loop-station.size ≤ 2 ^ 40 = omega (arith, ap nat_abs (sym c.loop-station.size-is ∙ c.loop-station.invariant.2), size_bound m (g.met.R.Rule.sound c.args.rule.now) c.loop-station.station (omega (arith, c.span-station-end.ensures, (g.met.R.Rule.sound c.args.rule.now).span.stations))) in

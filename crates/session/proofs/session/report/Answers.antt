@@ -6,7 +6,7 @@ use Rattle.session.proofs.session.report.Goals as goal
 pub returns-in-Ok : goal.returns-in-Ok
 returns-in-Ok c =
     let told = estimated c.args.order.now c.args.survey.now in
-    let report : c.write-result.result ≡ (reported told c.args.out.now).report = search rules in
+    let report : c.write_result.result ≡ (reported told c.args.out.now).report = search rules in
     record {
       buffer = search rules;
       report = report;
@@ -16,7 +16,7 @@ returns-in-Ok c =
 pub returns-in-Err : goal.returns-in-Err
 returns-in-Err c =
     let told = estimated c.args.order.now c.args.survey.now in
-    let report : c.write-refusal.result ≡ (reported told c.args.out.now).report = search rules in
+    let report : c.write_refusal.result ≡ (reported told c.args.out.now).report = search rules in
     record {
       buffer = search rules;
       report = report;

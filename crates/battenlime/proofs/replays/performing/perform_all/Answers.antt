@@ -21,10 +21,10 @@ loop-index-preserved c =
     let calls = c.args.calls.now in
     let zeros : CallRecord = record { kind = 0; station = 0; value = pos 0; tolerance = 0 } in
     let entry : Entry = entry_meant (get_or calls i zeros) in (
-      underway_more reply_shown (told run.rule) (ledger_of run) (map entry_meant calls) c.args.replies.now c.loop-index.replies i (ledger_of here) entry (map entry_meant (drop (i + 1) calls)) c.reply-record.result (ledger_of c.perform.new.self)
+      underway_more reply_shown (told run.rule) (ledger_of run) (map entry_meant calls) c.args.replies.now c.loop-index.replies i (ledger_of here) entry (map entry_meant (drop (i + 1) calls)) c.reply_record.result (ledger_of c.perform.new.self)
           (omega (arith, c.requires, c.loop-index-test.true, c.loop-index.invariant.0.long))
-          (c.reply-record.ensures ∙ ap reply_shown (c.perform.ensures.reply ∙ ap₂ (λ t e. answer (told t) (ledger_of here) e) rule c.call-meant.ensures))
-          (c.perform.ensures.ledger ∙ ap₂ (λ t e. step (told t) (ledger_of here) e) rule c.call-meant.ensures)
+          (c.reply_record.ensures ∙ ap reply_shown (c.perform.ensures.reply ∙ ap₂ (λ t e. answer (told t) (ledger_of here) e) rule c.call_meant.ensures))
+          (c.perform.ensures.ledger ∙ ap₂ (λ t e. step (told t) (ledger_of here) e) rule c.call_meant.ensures)
           (subst (λ es. Underway reply_shown (told run.rule) (ledger_of run) es (map entry_meant calls) c.args.replies.now c.loop-index.replies i (ledger_of here)) (ap (map entry_meant) (drop_more calls i zeros c.loop-index-test.true)) c.loop-index.invariant.0),
       c.perform.ensures.rule ∙ rule,
     )

@@ -10,7 +10,7 @@ put_more before held after bytes i h p q =
 
 pub loop-byte-preserved : goal.loop-byte-preserved
 loop-byte-preserved c =
-    (put_more _ _ _ c.args.bytes.now c.loop-byte.byte-index (omega arith) c.loop-byte.invariant.0 c.push-byte.ensures.text, omega arith)
+    (put_more _ _ _ c.args.bytes.now c.loop-byte.byte-index (omega arith) c.loop-byte.invariant.0 c.push_byte.ensures.text, omega arith)
 
 pub returns : goal.returns
 returns c =

@@ -18,18 +18,18 @@ put_plain (negsuc k) m before after h e q = cc
 pub returns : goal.returns
 returns c =
     let same : to_z w64 (of_z w64 c.args.n) ≡ c.args.n = to_z-of_z w64 c.args.n c.ranges.n in
-    let size : c.unsigned-abs.result ≡ nat_abs c.args.n = c.unsigned-abs.ensures.value ∙ ap nat_abs same in
+    let size : c.unsigned_abs.result ≡ nat_abs c.args.n = c.unsigned_abs.ensures.value ∙ ap nat_abs same in
     elim c.if-n-lt0.branch [
       | then-n-lt0 w ↦
           let h : lt_z c.args.n (pos 0) ≡ true = sym (ap (λ z. lt_z z (pos 0)) same) ∙ w.if-n-lt0.true in
           record {
-            text = put_negative c.args.n _ _ _ _ h size (ap text w.self-is ∙ w.push-byte.ensures.text) c.push-number.ensures.text;
+            text = put_negative c.args.n _ _ _ _ h size (ap text w.self-is ∙ w.push_byte.ensures.text) c.push_number.ensures.text;
             len = omega (arith, ap (λ l. l.len) w.self-is);
           }
       | else-n-lt0 w ↦
           let h : lt_z c.args.n (pos 0) ≡ false = sym (ap (λ z. lt_z z (pos 0)) same) ∙ w.if-n-lt0.false in
           record {
-            text = put_plain c.args.n _ _ _ h size (c.push-number.ensures.text ∙ ap (λ l. text l ++ decimal c.unsigned-abs.result) w.self-is);
+            text = put_plain c.args.n _ _ _ h size (c.push_number.ensures.text ∙ ap (λ l. text l ++ decimal c.unsigned_abs.result) w.self-is);
             len = omega (arith, ap (λ l. l.len) w.self-is);
           }
     ]

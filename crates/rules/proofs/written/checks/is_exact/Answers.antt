@@ -13,8 +13,8 @@ left_is ws k m h fits e =
 left_fits : (ws : List ℤ) (k : ℕ) (m : ℤ) → length ws ≤ 17 → k ≤ 9 → absolute_sum_lem ws ≤ 1048576 → SFits w64 m → m ≡ moment_of ws k → SFits w64 (to_z w64 (k + 1) *ℤ to_z w64 (of_z w64 m))
 left_fits ws k m n h b fits e = subst (SFits w64) (sym (left_is ws k m h fits e)) (small_fits _ (left_small ws k n h b))
 
-pub overflow-mul-weighted : goal.overflow-mul-weighted
-overflow-mul-weighted c =
+pub overflow_mul-weighted : goal.overflow_mul-weighted
+overflow_mul-weighted c =
     let fits : SFits w64 c.moment.result = search rules in
     left_fits c.args.weights.now c.args.power c.moment.result c.requires.few c.requires.low c.requires.small fits c.moment.ensures
 
@@ -25,8 +25,8 @@ right_is c =
     ap₂ ◌*ℤ◌ (to_z_pos w64 c.args.denominator (omega arith))
     (to_z-of_z w64 _ fits ∙ c.station_power.ensures ∙ ap (λ k. pos (last_station c.args.weights.now) ^ℤ k) next)
 
-pub overflow-mul-result : goal.overflow-mul-result
-overflow-mul-result c =
+pub overflow_mul-result : goal.overflow_mul-result
+overflow_mul-result c =
     subst (SFits w64) (sym (right_is c)) (small_fits _ (right_small c.args.denominator (last_station c.args.weights.now) c.args.power c.requires.limit (omega arith) c.requires.low))
 
 pub returns : goal.returns
@@ -34,5 +34,5 @@ returns c =
     let fits : SFits w64 c.moment.result = search rules in
     equal_bits _ _
     (left_fits c.args.weights.now c.args.power c.moment.result c.requires.few c.requires.low c.requires.small fits c.moment.ensures)
-    (overflow-mul-result c)
+    (overflow_mul-result c)
     ∙ ap₂ equal (left_is c.args.weights.now c.args.power c.moment.result c.requires.low fits c.moment.ensures) (right_is c)

@@ -27,16 +27,16 @@ term_is c =
 pub loop-station-init : goal.loop-station-init
 loop-station-init c = sym (sum_none (λ s. weight_in c.args.weights.now s *ℤ (pos s ^ℤ c.args.power)))
 
-pub overflow-mul-total : goal.overflow-mul-total
-overflow-mul-total c = subst (SFits w64) (sym (term_is c)) (small_fits (term c) (small c).0)
+pub overflow_mul-total : goal.overflow_mul-total
+overflow_mul-total c = subst (SFits w64) (sym (term_is c)) (small_fits (term c) (small c).0)
 
-pub overflow-add-total : goal.overflow-add-total
-overflow-add-total c =
-    subst (SFits w64) (sym (ap₂ ◌+ℤ◌ c.loop-station.invariant (to_z-of_z w64 _ (overflow-mul-total c) ∙ term_is c)))
+pub overflow_add-total : goal.overflow_add-total
+overflow_add-total c =
+    subst (SFits w64) (sym (ap₂ ◌+ℤ◌ c.loop-station.invariant (to_z-of_z w64 _ (overflow_mul-total c) ∙ term_is c)))
     (small_fits (so_far c +ℤ term c) (small c).1)
 
 pub loop-station-preserved : goal.loop-station-preserved
 loop-station-preserved c =
-    to_z-of_z w64 _ (overflow-add-total c)
-    ∙ ap₂ ◌+ℤ◌ c.loop-station.invariant (to_z-of_z w64 _ (overflow-mul-total c) ∙ term_is c)
+    to_z-of_z w64 _ (overflow_add-total c)
+    ∙ ap₂ ◌+ℤ◌ c.loop-station.invariant (to_z-of_z w64 _ (overflow_mul-total c) ∙ term_is c)
     ∙ moment_more c.loop-station.station (λ s. weight_in c.args.weights.now s *ℤ (pos s ^ℤ c.args.power))

@@ -10,8 +10,8 @@ small c = omega (arith, power_small c.args.station c.args.exponent 10 c.requires
 pub pow-requires : goal.pow-requires
 pow-requires c = omega (arith, power_small c.args.station c.args.exponent 10 c.requires.0 c.requires.1)
 
-pub overflow-cast-result : goal.overflow-cast-result
-overflow-cast-result c = omega (arith, ints, small c)
+pub overflow_cast-result : goal.overflow_cast-result
+overflow_cast-result c = omega (arith, ints, small c)
 
 pub returns : goal.returns
 returns c =

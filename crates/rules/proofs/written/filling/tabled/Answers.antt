@@ -4,8 +4,8 @@ use Rattle.rules.specs.Written.{last_station, weight_in}
 use Rattle.rules.proofs.Loading.{telling_same}
 use Rattle.rules.proofs.written.filling.tabled.Goals as goal
 
-pub table-of-requires : goal.table-of-requires
-table-of-requires c =
+pub table_of-requires : goal.table_of-requires
+table_of-requires c =
     subst Sound
     (sym (telling_same (last_station c.args.weights.now) c.args.denominator c.args.degree c.args.symmetric c.args.ceiling (weight_in c.spread.result) (weight_in c.args.weights.now) c.spread.ensures))
     c.requires.sound

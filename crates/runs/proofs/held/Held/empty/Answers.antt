@@ -3,7 +3,7 @@ use Rattle.sources.specs.Rows.{told}
 use Rattle.runs.proofs.Changes.{blank_in_range, blank_beyond}
 use Rattle.runs.proofs.held.Held.empty.Goals as goal
 
-pub invariant-of-result : goal.invariant-of-result
-invariant-of-result c =
+pub invariant_of-result : goal.invariant_of-result
+invariant_of-result c =
     let none : (s : ℕ) → told c.empty.result s ≡ None = (λ s. ap (λ (f : ℕ → Option ℤ). f s) c.empty.ensures) in
     (blank_in_range (told c.empty.result) none, (blank_beyond (told c.empty.result) none, (omega arith, tt)))

@@ -4,8 +4,8 @@ use Rattle.sources.specs.Rows.{told, with_reading}
 use Rattle.runs.proofs.Changes.{put_in_range, put_beyond, put_readings}
 use Rattle.runs.proofs.held.Held.put.Goals as goal
 
-pub invariant-of-self : goal.invariant-of-self
-invariant-of-self c =
+pub invariant_of-self : goal.invariant_of-self
+invariant_of-self c =
     let f = told c.args.self.now.row in
     let g = told c.put.new.self in
     let put : g ≡ with_reading c.args.station c.args.value f = c.put.ensures ∙ ap (λ (v : ℤ). with_reading c.args.station v f) (to_z-of_z w64 c.args.value c.ranges.value) in (

@@ -3,8 +3,8 @@ use Rattle.sources.specs.Rows.{told}
 use Rattle.runs.proofs.Changes.{strike_in_range, strike_beyond}
 use Rattle.runs.proofs.held.Held.strike.Goals as goal
 
-pub invariant-of-self : goal.invariant-of-self
-invariant-of-self c =
+pub invariant_of-self : goal.invariant_of-self
+invariant_of-self c =
     let f = told c.args.self.now.row in
     let g = told c.strike.new.self in (
       strike_in_range f g c.args.station c.strike.ensures c.args.self.now.in_range,

@@ -21,7 +21,7 @@ loop-station-preserved g c =
           let fits : SFits w64 w.in-Some.value = search rules in
           ap readings_held w.self-is ∙ w.put.ensures ∙ ap (λ (v : ℤ). with_value n v (readings_held c.loop-station.self)) (to_z-of_z w64 w.in-Some.value fits)
           ∙ ap (with_value n w.in-Some.value) c.loop-station.invariant ∙ taken_more source r n w.in-Some.value (sym w.in-Some.ensures)
-      | goal.in-default w ↦ ap readings_held w.self-is ∙ c.loop-station.invariant ∙ taken_skip source r n (sym w.in-default.ensures)
+      | goal.in_default w ↦ ap readings_held w.self-is ∙ c.loop-station.invariant ∙ taken_skip source r n (sym w.in_default.ensures)
     ]
 
 pub returns : goal.returns

@@ -7,11 +7,11 @@ use Rattle.sources.proofs.Steps.{step_in_range}
 use Rattle.sources.proofs.Writing.{value_range}
 use Rattle.sources.proofs.step_table.StepTable.new.Goals as goal
 
-pub invariant-of-result : goal.invariant-of-result
-invariant-of-result c =
+pub invariant_of-result : goal.invariant_of-result
+invariant_of-result c =
     let starts = c.args.starts.now in
     let values = c.args.values.now in
-    let none = sym c.in-default-first-out-of-range.ensures in
+    let none = sym c.in_default-first_out_of_range.ensures in
     let same : length starts ≡ length values = search rules in
     let len : length c.written-row.result.present ≡ 1025 = search rules in (
       λ s v e. step_in_range starts values
