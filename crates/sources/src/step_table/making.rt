@@ -45,8 +45,8 @@ fn passed(starts: &[usize], before: usize, station: usize) -> usize
 
 // The readings written out, station by station.
 fn written(starts: &[usize], values: &[i64]) -> Row
-    requires starts_len { length starts.now ≡ length values.now }
-    requires starts_value { first_where (length starts.now) (out_of_order (start_of starts.now)) ≡ None }
+    requires same_length { length starts.now ≡ length values.now }
+    requires ordered { first_where (length starts.now) (out_of_order (start_of starts.now)) ≡ None }
     ensures { (s : ℕ) → told result s ≡ step_at starts.now values.now s }
 {
     let mut row = Row::empty();

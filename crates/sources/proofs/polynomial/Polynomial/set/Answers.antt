@@ -5,4 +5,4 @@ use Rattle.sources.proofs.polynomial.Polynomial.set.Goals as goal
 
 pub invariant_of-self : goal.invariant_of-self
 invariant_of-self c =
-    (λ i. subst InRange (sym (c.padded-self.ensures i)) (list_in_range c.args.coefficients.now (sym c.in_default.ensures) i), tt)
+    record { in_range = λ i. subst InRange (sym (c.padded-self.ensures i)) (list_in_range c.args.coefficients.now (sym c.in_default.ensures) i) }

@@ -13,9 +13,9 @@ invariant_of-result c =
     let values = c.args.values.now in
     let none = sym c.in_default-first_out_of_range.ensures in
     let same : length starts ≡ length values = search rules in
-    let len : length c.written-row.result.present ≡ 1025 = search rules in (
-      λ s v e. step_in_range starts values
+    let len : length c.written-row.result.present ≡ 1025 = search rules in record {
+      in_range = λ s v e. step_in_range starts values
           (λ k h. value_range (value_of values) k (first_none (out_of_range (value_of values)) (length values) none k (omega arith)))
-          s v (sym (c.written-row.ensures s) ∙ e),
-      (λ s h. get_or_past c.written-row.result.present s false (omega arith), tt),
-    )
+          s v (sym (c.written-row.ensures s) ∙ e);
+      none_beyond = λ s h. get_or_past c.written-row.result.present s false (omega arith);
+    }

@@ -22,7 +22,7 @@ loop-station-preserved c =
     let n = length starts in
     let k = c.loop-station.station in
     let m = c.passed-count.result in
-    let up = rising start n (first_none (out_of_order start) n c.requires.1) in
+    let up = rising start n (first_none (out_of_order start) n c.requires.ordered) in
     let p = passed_more start n up k c.loop-station.count m c.loop-station.invariant.0 c.passed-count.ensures in
     let before = c.loop-station.invariant.1 in (
       p,
