@@ -20,7 +20,7 @@ fn greatest_common(a: u64, b: u64) -> u64
 
 // The greatest common divisor of the denominator and all weights.
 pub(crate) fn divisor<R: Rule>(below: &R) -> u64
-    ensures value { result ≡ common_divisor (meaning below.now).weighting.denominator (suc (meaning below.now).span) (meaning below.now).weighting.weight }
+    ensures value { result ≡ common_divisor (R.meaning below.now).weighting.denominator (suc (R.meaning below.now).span) (R.meaning below.now).weighting.weight }
     ensures bounds { (1 ≤ result) × (result ≤ 2 ^ 31) }
 {
     let mut found = below.denominator();

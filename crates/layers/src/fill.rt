@@ -7,8 +7,8 @@ use rules::Rule;
 
 // Adds the weights below, moved up by `first` stations.
 fn add_panel<R: Rule>(weights: &mut [i64; 1025], below: &R, first: usize)
-    requires { (first + (meaning below.now).span ≤ 1024) × (((s : ℕ) → unsigned_abs (slice_index_or weights.old s (pos 0)) ≤ 2 ^ 60)) }
-    ensures { Holds weights.new (λ s. slice_index_or weights.old s (pos 0) +ℤ shifted (meaning below.now).weighting.weight first s) }
+    requires { (first + (R.meaning below.now).span ≤ 1024) × (((s : ℕ) → unsigned_abs (slice_index_or weights.old s (pos 0)) ≤ 2 ^ 60)) }
+    ensures { Holds weights.new (λ s. slice_index_or weights.old s (pos 0) +ℤ shifted (R.meaning below.now).weighting.weight first s) }
 {
     for station in 0..below.span() + 1 {
         weights[first + station] += below.weight(station);
@@ -17,8 +17,8 @@ fn add_panel<R: Rule>(weights: &mut [i64; 1025], below: &R, first: usize)
 
 // The weights of `count` panels.
 pub(crate) fn panel_weights<R: Rule>(below: &R, count: usize) -> [i64; 1025]
-    requires { count * (meaning below.now).span ≤ 1024 }
-    ensures { Holds result (panel_weight count (meaning below.now).span (meaning below.now).weighting.weight) }
+    requires { count * (R.meaning below.now).span ≤ 1024 }
+    ensures { Holds result (panel_weight count (R.meaning below.now).span (R.meaning below.now).weighting.weight) }
 {
     let span = below.span();
     let mut weights = [0; 1025];
@@ -30,8 +30,8 @@ pub(crate) fn panel_weights<R: Rule>(below: &R, count: usize) -> [i64; 1025]
 
 // The weights stretched by `count`.
 pub(crate) fn stretch_weights<R: Rule>(below: &R, count: usize) -> [i64; 1025]
-    requires { (1 ≤ count) × (count * (meaning below.now).span ≤ 1024) }
-    ensures { Holds result (stretch_weight count (meaning below.now).weighting.weight) }
+    requires { (1 ≤ count) × (count * (R.meaning below.now).span ≤ 1024) }
+    ensures { Holds result (stretch_weight count (R.meaning below.now).weighting.weight) }
 {
     let mut weights = [0; 1025];
     for station in 0..below.span() + 1 {
@@ -42,7 +42,7 @@ pub(crate) fn stretch_weights<R: Rule>(below: &R, count: usize) -> [i64; 1025]
 
 // The weights from the other end.
 pub(crate) fn mirror_weights<R: Rule>(below: &R) -> [i64; 1025]
-    ensures { Holds result (mirror_weight (meaning below.now).span (meaning below.now).weighting.weight) }
+    ensures { Holds result (mirror_weight (R.meaning below.now).span (R.meaning below.now).weighting.weight) }
 {
     let span = below.span();
     let mut weights = [0; 1025];
@@ -54,7 +54,7 @@ pub(crate) fn mirror_weights<R: Rule>(below: &R) -> [i64; 1025]
 
 // The weights as they are.
 pub(crate) fn same_weights<R: Rule>(below: &R) -> [i64; 1025]
-    ensures { Holds result (meaning below.now).weighting.weight }
+    ensures { Holds result (R.meaning below.now).weighting.weight }
 {
     let mut weights = [0; 1025];
     for station in 0..below.span() + 1 {
@@ -65,7 +65,7 @@ pub(crate) fn same_weights<R: Rule>(below: &R) -> [i64; 1025]
 
 // The weight `first` stations before this one, 0 below that.
 fn shifted_weight<R: Rule>(below: &R, first: usize, station: usize) -> i64
-    ensures { result ≡ shifted (meaning below.now).weighting.weight first station }
+    ensures { result ≡ shifted (R.meaning below.now).weighting.weight first station }
 {
     if station >= first {
         below.weight(station - first)
@@ -76,7 +76,7 @@ fn shifted_weight<R: Rule>(below: &R, first: usize, station: usize) -> i64
 
 // Twice the weight at half the station, 0 at odd stations.
 fn doubled_weight<R: Rule>(below: &R, station: usize) -> i64
-    ensures { result ≡ stretch_weight 2 (meaning below.now).weighting.weight station }
+    ensures { result ≡ stretch_weight 2 (R.meaning below.now).weighting.weight station }
 {
     if station % 2 == 0 {
         2 * below.weight(station / 2)
@@ -95,8 +95,8 @@ fn combination(factor: u64, left: i64, right: i64, coarse: i64) -> i64
 
 // The weights of the refinement by `factor`.
 pub(crate) fn refine_weights<R: Rule>(below: &R, factor: u64) -> [i64; 1025]
-    requires { (factor ≤ 2048) × (2 * (meaning below.now).span ≤ 1024) }
-    ensures { Holds result (refine_weight factor (meaning below.now).span (meaning below.now).weighting.weight) }
+    requires { (factor ≤ 2048) × (2 * (R.meaning below.now).span ≤ 1024) }
+    ensures { Holds result (refine_weight factor (R.meaning below.now).span (R.meaning below.now).weighting.weight) }
 {
     let span = below.span();
     let mut weights = [0; 1025];
@@ -111,7 +111,7 @@ pub(crate) fn refine_weights<R: Rule>(below: &R, factor: u64) -> [i64; 1025]
 // The weights divided by `divisor`.
 pub(crate) fn reduce_weights<R: Rule>(below: &R, divisor: u64) -> [i64; 1025]
     requires { (1 ≤ divisor) × (divisor ≤ 2 ^ 31) }
-    ensures { Holds result (reduce_weight divisor (meaning below.now).weighting.weight) }
+    ensures { Holds result (reduce_weight divisor (R.meaning below.now).weighting.weight) }
 {
     let mut weights = [0; 1025];
     for station in 0..below.span() + 1 {

@@ -34,7 +34,7 @@ fn raised(degree: usize, symmetric: bool) -> usize
 
 // The sizes of `count` copies, if there are any and they are admitted.
 fn multiplied<R: Rule>(below: &R, count: usize, place: usize) -> Result<Sizes, Fault>
-    ensures { result ≡ sizing (Layer.Panels count) place (meaning below.now) }
+    ensures { result ≡ sizing (Layer.Panels count) place (R.meaning below.now) }
 {
     if count == 0 {
         return Err(refused(Cause::CountZero, place));
@@ -55,7 +55,7 @@ fn multiplied<R: Rule>(below: &R, count: usize, place: usize) -> Result<Sizes, F
 
 // The sizes of the refinement, if they are admitted.
 fn doubled<R: Rule>(below: &R, place: usize) -> Result<Sizes, Fault>
-    ensures { result ≡ sizing Layer.Refinement place (meaning below.now) }
+    ensures { result ≡ sizing Layer.Refinement place (R.meaning below.now) }
 {
     let degree = below.degree();
     let factor = factor(degree);
@@ -71,7 +71,7 @@ fn doubled<R: Rule>(below: &R, place: usize) -> Result<Sizes, Fault>
 
 // The sizes of the rule itself.
 fn unchanged<R: Rule>(below: &R) -> Sizes
-    ensures { result ≡ sizes_of (meaning below.now) }
+    ensures { result ≡ sizes_of (R.meaning below.now) }
 {
     Sizes {
         span: below.span(),
@@ -84,7 +84,7 @@ fn unchanged<R: Rule>(below: &R) -> Sizes
 // The sizes of the rule in lowest terms.
 fn divided<R: Rule>(below: &R, divisor: u64) -> Sizes
     requires { 1 ≤ divisor }
-    ensures { result ≡ divided_sizes divisor (meaning below.now) }
+    ensures { result ≡ divided_sizes divisor (R.meaning below.now) }
 {
     Sizes {
         span: below.span(),
@@ -99,7 +99,7 @@ pub(crate) fn lay_panels<R: Rule + Drop>(
     count: usize,
     place: usize,
 ) -> Result<Table, Fault>
-    ensures { result_map_both told_by (λ e. e) result ≡ making (Layer.Panels count) place (meaning below) }
+    ensures { result_map_both told_by (λ e. e) result ≡ making (Layer.Panels count) place (R.meaning below) }
 {
     let sizes = multiplied(&below, count, place)?;
     let weights = panel_weights(&below, count);
@@ -111,7 +111,7 @@ pub(crate) fn lay_stretch<R: Rule + Drop>(
     count: usize,
     place: usize,
 ) -> Result<Table, Fault>
-    ensures { result_map_both told_by (λ e. e) result ≡ making (Layer.Stretch count) place (meaning below) }
+    ensures { result_map_both told_by (λ e. e) result ≡ making (Layer.Stretch count) place (R.meaning below) }
 {
     let sizes = multiplied(&below, count, place)?;
     let weights = stretch_weights(&below, count);
@@ -119,7 +119,7 @@ pub(crate) fn lay_stretch<R: Rule + Drop>(
 }
 
 pub(crate) fn lay_refinement<R: Rule + Drop>(below: R, place: usize) -> Result<Table, Fault>
-    ensures { result_map_both told_by (λ e. e) result ≡ making Layer.Refinement place (meaning below) }
+    ensures { result_map_both told_by (λ e. e) result ≡ making Layer.Refinement place (R.meaning below) }
 {
     let sizes = doubled(&below, place)?;
     let weights = refine_weights(&below, factor(below.degree()));
@@ -127,14 +127,14 @@ pub(crate) fn lay_refinement<R: Rule + Drop>(below: R, place: usize) -> Result<T
 }
 
 pub(crate) fn lay_mirror<R: Rule + Drop>(below: R) -> Table
-    ensures { told_by result ≡ mirrored (meaning below) }
+    ensures { told_by result ≡ mirrored (R.meaning below) }
 {
     let weights = mirror_weights(&below);
     unchanged(&below).table(below.is_symmetric(), weights)
 }
 
 pub(crate) fn lay_lowest_terms<R: Rule + Drop>(below: R) -> Table
-    ensures { told_by result ≡ reduced (meaning below) }
+    ensures { told_by result ≡ reduced (R.meaning below) }
 {
     let divisor = divisor(&below);
     let weights = reduce_weights(&below, divisor);
@@ -143,7 +143,7 @@ pub(crate) fn lay_lowest_terms<R: Rule + Drop>(below: R) -> Table
 
 // The rule itself, as a table.
 pub(crate) fn tabled<R: Rule + Drop>(below: R) -> Table
-    ensures { told_by result ≡ meaning below }
+    ensures { told_by result ≡ R.meaning below }
 {
     let weights = same_weights(&below);
     unchanged(&below).table(below.is_symmetric(), weights)

@@ -15,13 +15,13 @@ loop-index-preserved g c =
 
 pub returns-in_err-table : goal.returns-in_err-table
 returns-in_err-table g c =
-    let p = err_from_is_err_and c.from-residual.result c.from-residual.ensures.1 in
+    let p = err_from_is_err_and c.from_residual.result c.from_residual.ensures.1 in
     record {
       value =
           ap (result_map_both told (λ e. e)) p.1 ∙ ap (λ e. Err e) p.2 ∙
           piling_refused c.args.layers.now c.loop-index.index (Panels 0) (told c.loop-index.table) c.in_err-table.field-0.0 c.loop-index-test.true c.in_err-table.ensures ∙
           c.loop-index.invariant ∙ ap (piling c.args.layers.now 1) c.tabled-table.ensures;
-      promises = MatchResult-from_err c.from-residual.result (λ t. Sound (told t)) (λ _. Unit {0}) c.from-residual.ensures.0 (λ _. tt);
+      promises = MatchResult-from_err c.from_residual.result (λ t. Sound (told t)) (λ _. Unit {0}) c.from_residual.ensures.0 (λ _. tt);
     }
 
 pub returns : goal.returns
