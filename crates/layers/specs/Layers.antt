@@ -107,3 +107,8 @@ piling (l ∷ ls) p r = carried (making l p r) (λ m. piling ls (p + 1) m)
 abbrev pub piled : List Layer → Meaning → Meaning
 piled [] r = r
 piled (l ∷ ls) r = piled ls (laid l r)
+
+-- the rule with the layers of a list up to the first that is refused
+abbrev pub reached : List Layer → Meaning → Meaning
+reached [] r = r
+reached (l ∷ ls) r = accepted_or (refusal l r) (reached ls (made l r)) (λ _. r)

@@ -47,7 +47,7 @@ pub fn lowest_terms<R: Rule + Drop>(below: R) -> Table
 }
 
 // One layer at its place in a pile.
-fn lay(layer: Layer, below: Table, place: usize) -> Result<Table, Fault>
+pub(crate) fn lay(layer: Layer, below: Table, place: usize) -> Result<Table, Fault>
     ensures { result_map_both told_by (λ e. e) result ≡ making layer place (told_by below) }
 {
     match layer {

@@ -6,7 +6,9 @@ mod fill;
 mod layer;
 mod laying;
 mod make;
+mod on_table;
 mod sizes;
 
 pub use layer::Layer;
 pub use laying::{lowest_terms, mirror, panels, pile, refine, stretch};
+pub use on_table::{lay, table_of};

@@ -145,6 +145,13 @@ pub(crate) fn lay_lowest_terms<R: Rule + Drop>(below: R) -> Table
 pub(crate) fn tabled<R: Rule + Drop>(below: R) -> Table
     ensures { told_by result ≡ R.meaning below }
 {
-    let weights = same_weights(&below);
-    unchanged(&below).table(below.is_symmetric(), weights)
+    written_out(&below)
+}
+
+// A rule that stays where it is, written out as a table.
+pub(crate) fn written_out<R: Rule>(rule: &R) -> Table
+    ensures { told_by result ≡ R.meaning rule.now }
+{
+    let weights = same_weights(rule);
+    unchanged(rule).table(rule.is_symmetric(), weights)
 }
