@@ -43,7 +43,7 @@ impl Held {
     // Takes over each reading that a source has at the stations 0 to `last`.
     pub(crate) fn take_readings<S: Source>(&mut self, source: &S, last: usize)
         requires { last ≤ 1024 }
-        ensures { readings_held self.new ≡ with_readings last (meaning source.now) (readings_held self.old) }
+        ensures { readings_held self.new ≡ with_readings last (S.meaning source.now) (readings_held self.old) }
     {
         for station in 0..last + 1 {
             if let Some(value) = source.reading(station) {

@@ -24,7 +24,7 @@ impl<R: Rule> Run<R> {
 
     // The integral of what is held, whether published or not.
     pub fn result(&self) -> Result<Estimate, Fault>
-        ensures { result ≡ result_of (meaning self.now.rule) (ledger_of self.now).readings }
+        ensures { result ≡ result_of (R.meaning self.now.rule) (ledger_of self.now).readings }
     {
         let total = total(&self.rule, &self.held)?;
         Ok(Estimate {
@@ -36,7 +36,7 @@ impl<R: Rule> Run<R> {
 
     // The last station of the run.
     pub fn span(&self) -> usize
-        ensures { result ≡ (meaning self.now.rule).span }
+        ensures { result ≡ (R.meaning self.now.rule).span }
     {
         self.rule.span()
     }

@@ -15,7 +15,7 @@ use rules::{Cause, Fault, Origin, Rule};
 impl<R: Rule> Run<R> {
     // The result, refused as that of the second of two runs.
     fn result_as_other(&self) -> Result<Estimate, Fault>
-        ensures { result ≡ given (empty_station Other (lowest_empty (meaning self.now.rule).weighting (ledger_of self.now).readings)) (estimate_of (meaning self.now.rule) (ledger_of self.now).readings) }
+        ensures { result ≡ given (empty_station Other (lowest_empty (R.meaning self.now.rule).weighting (ledger_of self.now).readings)) (estimate_of (R.meaning self.now.rule) (ledger_of self.now).readings) }
     {
         match self.result() {
             Ok(estimate) => Ok(estimate),

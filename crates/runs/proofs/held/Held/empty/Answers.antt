@@ -6,4 +6,4 @@ use Rattle.runs.proofs.held.Held.empty.Goals as goal
 pub invariant_of-result : goal.invariant_of-result
 invariant_of-result c =
     let none : (s : ℕ) → told c.empty.result s ≡ None = (λ s. ap (λ (f : ℕ → Option ℤ). f s) c.empty.ensures) in
-    (blank_in_range (told c.empty.result) none, (blank_beyond (told c.empty.result) none, (omega arith, tt)))
+    record { in_range = blank_in_range (told c.empty.result) none; none_beyond = blank_beyond (told c.empty.result) none; tolerance_most = omega arith }

@@ -8,13 +8,7 @@ pub invariant_of-self : goal.invariant_of-self
 invariant_of-self c =
     let f = told c.args.self.now.row in
     let g = told c.put.new.self in
-    let put : g ≡ with_reading c.args.station c.args.value f = c.put.ensures ∙ ap (λ (v : ℤ). with_reading c.args.station v f) (to_z-of_z w64 c.args.value c.ranges.value) in (
-      put_in_range f g c.args.station c.args.value c.requires.0 c.requires.1 put c.args.self.now.in_range,
-      (
-        put_beyond f g c.args.station c.args.value c.requires.0 c.requires.1 put c.args.self.now.none_beyond,
-        (c.args.self.now.tolerance_most, tt),
-      ),
-    )
+    let put : g ≡ with_reading c.args.station c.args.value f = c.put.ensures ∙ ap (λ (v : ℤ). with_reading c.args.station v f) (to_z-of_z w64 c.args.value c.ranges.value) in record { in_range = put_in_range f g c.args.station c.args.value c.requires.0 c.requires.1 put c.args.self.now.in_range; none_beyond = put_beyond f g c.args.station c.args.value c.requires.0 c.requires.1 put c.args.self.now.none_beyond; tolerance_most = c.args.self.now.tolerance_most }
 
 pub returns : goal.returns
 returns c =

@@ -6,13 +6,7 @@ use Rattle.runs.proofs.held.Held.strike.Goals as goal
 pub invariant_of-self : goal.invariant_of-self
 invariant_of-self c =
     let f = told c.args.self.now.row in
-    let g = told c.strike.new.self in (
-      strike_in_range f g c.args.station c.strike.ensures c.args.self.now.in_range,
-      (
-        strike_beyond f g c.args.station c.strike.ensures c.args.self.now.none_beyond,
-        (c.args.self.now.tolerance_most, tt),
-      ),
-    )
+    let g = told c.strike.new.self in record { in_range = strike_in_range f g c.args.station c.strike.ensures c.args.self.now.in_range; none_beyond = strike_beyond f g c.args.station c.strike.ensures c.args.self.now.none_beyond; tolerance_most = c.args.self.now.tolerance_most }
 
 pub returns : goal.returns
 returns c = ap (λ (f : ℕ → Option ℤ). record { reading = f; tolerance = c.args.self.now.tolerance }) c.strike.ensures
