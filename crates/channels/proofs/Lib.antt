@@ -1,3 +1,1 @@
-pub mod Elements
-pub mod Sounds
 pub mod Wholes
