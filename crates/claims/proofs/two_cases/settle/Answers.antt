@@ -24,11 +24,11 @@ returns g c =
     record {
       first = c.replay-first.ensures.account;
       second = c.replay-second.ensures.account;
-      first-replies = first-replies;
-      second-replies = second-replies;
+      first_replies = first-replies;
+      second_replies = second-replies;
       verdict = c.judged-verdict.ensures;
-      first-law = first-law;
-      second-law = second-law;
-      verdict_law_lem =
+      first_law = first-law;
+      second_law = second-law;
+      verdict_law =
           subst (VerdictLaw one other) (sym c.judged-verdict.ensures) (verdict_law_lem one other first-law.pile.promises second-law.pile.promises);
     }
