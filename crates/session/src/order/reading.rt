@@ -3,11 +3,11 @@ ghost use Rattle.std.specs.Prelude.{◌≡◌, ◌≤◌, take};
 ghost use Rattle.std.specs.Result.{result_map_both};
 ghost use Rattle.rules.specs.BuiltIn.{meaning_of_row, row_of};
 ghost use Rattle.rules.specs.Tables.{told as told_by};
-ghost use Rattle.layers.specs.Layers.{piling};
+ghost use Rattle.layers.specs.Layers.{piling, reached};
 ghost use Rattle.session.specs.Orders.{base_of, layers_of, order_of, parts};
 
 use super::Order;
-use layers::{Layer, pile};
+use layers::{Layer, lay, pile};
 use rules::{BuiltIn, Cause, Fault, Origin, Table};
 
 // The most refinements that an order may ask for.
@@ -68,6 +68,15 @@ impl Order {
         layers[self.refinements] = Layer::Stretch(self.stretch);
         layers[self.refinements + 1] = Layer::Panels(self.panels);
         (layers, self.refinements + 2)
+    }
+
+    // Lays the layers that are ordered on the rule that a table holds. At a refusal the layers before it stay.
+    pub fn lay_on(self, table: &mut Table) -> Result<(), Fault>
+        ensures reply { result_map_both (λ _. told_by table.new) (λ e. e) result ≡ piling (layers_of (parts self)) 1 (told_by table.old) }
+        ensures table { told_by table.new ≡ reached (layers_of (parts self)) (told_by table.old) }
+    {
+        let (layers, count) = self.layers();
+        lay(table, &layers[0..count])
     }
 
     // The pile that is ordered.
