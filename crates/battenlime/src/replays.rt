@@ -41,8 +41,7 @@ fn replayed(
 
 // Gives a new run over the rule that is ordered, with the survey loaded, the calls in their order, and writes the reply to each.
 // Told is why there is no run, or that there are fewer places than calls; the places stay as they were then.
-#[unsafe(no_mangle)]
-pub extern "C" fn battenlime_replay(
+pub fn battenlime_replay(
     order: &[u8],
     survey: &[u8],
     calls: &[CallRecord],

@@ -7,8 +7,7 @@ use crate::records::{EstimateRecord, LineRecord, estimate_record, line_record};
 use session::{answer, estimate, report};
 
 // Writes the result, or the refusal, as one line into the buffer. Where the line does not fit the buffer stays as it was.
-#[unsafe(no_mangle)]
-pub extern "C" fn battenlime_report(order: &[u8], survey: &[u8], out: &mut [u8]) -> LineRecord
+pub fn battenlime_report(order: &[u8], survey: &[u8], out: &mut [u8]) -> LineRecord
     ensures buffer { out.new ≡ (reported (estimated order.now survey.now) out.old).buffer }
     ensures line { result ≡ line_shown (reported (estimated order.now survey.now) out.old).report }
     ensures within { result.len ≤ length out.old }
@@ -17,8 +16,7 @@ pub extern "C" fn battenlime_report(order: &[u8], survey: &[u8], out: &mut [u8])
 }
 
 // The same with order and survey in one input. An input shorter than an order is a short order.
-#[unsafe(no_mangle)]
-pub extern "C" fn battenlime_answer(input: &[u8], out: &mut [u8]) -> LineRecord
+pub fn battenlime_answer(input: &[u8], out: &mut [u8]) -> LineRecord
     ensures buffer { out.new ≡ (reported (estimated (take 6 input.now) (drop 6 input.now)) out.old).buffer }
     ensures line { result ≡ line_shown (reported (estimated (take 6 input.now) (drop 6 input.now)) out.old).report }
     ensures within { result.len ≤ length out.old }
@@ -27,8 +25,7 @@ pub extern "C" fn battenlime_answer(input: &[u8], out: &mut [u8]) -> LineRecord
 }
 
 // The result as numbers.
-#[unsafe(no_mangle)]
-pub extern "C" fn battenlime_integrate(order: &[u8], survey: &[u8]) -> EstimateRecord
+pub fn battenlime_integrate(order: &[u8], survey: &[u8]) -> EstimateRecord
     ensures { result ≡ estimate_shown (estimated order.now survey.now) }
 {
     estimate_record(estimate(order, survey))

@@ -9,8 +9,7 @@ use pairs::{Pair, verdict};
 
 // Settles two cases, each an order and a survey.
 // `law` says what the verdict means: two cases are told apart exactly where their bands share no number, and never where one polynomial fits both.
-#[unsafe(no_mangle)]
-pub extern "C" fn battenlime_settle<'a>(
+pub fn battenlime_settle<'a>(
     first_order: &'a [u8],
     first_survey: &'a [u8],
     second_order: &'a [u8],

@@ -44,8 +44,7 @@ fn fill(order: &[u8], weights: &mut [i64]) -> Result<RuleRecord, Fault>
 }
 
 // The rule that an order asks for. Its weights, for the stations 0 to its span, stand at the front of the buffer; where there are too few places the buffer stays as it was.
-#[unsafe(no_mangle)]
-pub extern "C" fn battenlime_weights(order: &[u8], weights: &mut [i64]) -> RuleRecord
+pub fn battenlime_weights(order: &[u8], weights: &mut [i64]) -> RuleRecord
     ensures weights { weights.new ≡ weights_left (fitted (ordered order.now) (length weights.old)) weights.old }
     ensures rule { result ≡ rule_shown (fitted (ordered order.now) (length weights.old)) }
 {

@@ -65,7 +65,7 @@ module _ (make : Parts → Result Meaning Fault) where
       after (Err g) = either f g v
 
 -- the verdict from what was read
-pub verdict_is : (first-order first-survey second-order second-survey : List ℕ) (a c : Result Asked Fault) → a ≡ prepared first-order first-survey → c ≡ prepared second-order second-survey → verdict_between (carried a account) (carried c account) ≡ verdict_on_bytes first-order first-survey second-order second-survey
+pub verdict_is : (first_order first_survey second_order second_survey : List ℕ) (a c : Result Asked Fault) → a ≡ prepared first_order first_survey → c ≡ prepared second_order second_survey → verdict_between (carried a account) (carried c account) ≡ verdict_on_bytes first_order first_survey second_order second_survey
 verdict_is o s p t a c ea ec =
     let make : Parts → Result Meaning Fault = λ q. piling (layers_of q) 1 (base_of q) in
     let start = ap₂ (λ x y. verdict_between (carried x account) (carried y account)) ea ec in

@@ -34,7 +34,7 @@ case_sound : (o : Result Parts Fault) (s : Result Readings Fault) (a : Account) 
 case_sound (Ok p) s a e = pile_sound p s a (piling (layers_of p) 1 (base_of p)) refl e
 case_sound (Err f) s a e = absurd (let z : ◌≡◌ {A = ℕ} 0 1 = cc in omega arith)
 
-pub law_on_bytes : (first-order first-survey second-order second-survey : List ℕ) (v : Option (Result Verdict Fault)) → v ≡ verdict_on_bytes first-order first-survey second-order second-survey → VerdictLaw (account_of_case first-order first-survey) (account_of_case second-order second-survey) v
+pub law_on_bytes : (first_order first_survey second_order second_survey : List ℕ) (v : Option (Result Verdict Fault)) → v ≡ verdict_on_bytes first_order first_survey second_order second_survey → VerdictLaw (account_of_case first_order first_survey) (account_of_case second_order second_survey) v
 law_on_bytes o s p t v is =
     subst (VerdictLaw (account_of_case o s) (account_of_case p t)) (sym is)
     (verdict_law_lem (account_of_case o s) (account_of_case p t) (case_sound (order_of o) (survey_of s)) (case_sound (order_of p) (survey_of t)))

@@ -20,9 +20,9 @@ account_of_case order survey =
     (λ pile. carried (survey_of survey) (λ readings. Ok (record { pile = pile; ledger = step pile blank (loading readings) }))))
 
 -- the verdict on the two piles and their ledgers; none where an order, a pile or a survey is refused
-abbrev pub verdict_on_bytes : (first-order first-survey second-order second-survey : List ℕ) → Option (Result Verdict Fault)
-verdict_on_bytes first-order first-survey second-order second-survey =
-    verdict_between (account_of_case first-order first-survey) (account_of_case second-order second-survey)
+abbrev pub verdict_on_bytes : (first_order first_survey second_order second_survey : List ℕ) → Option (Result Verdict Fault)
+verdict_on_bytes first_order first_survey second_order second_survey =
+    verdict_between (account_of_case first_order first_survey) (account_of_case second_order second_survey)
 
 -- an order and a survey that are accepted
 pub record Asked : Type 0 where

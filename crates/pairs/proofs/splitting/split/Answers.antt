@@ -8,8 +8,8 @@ returns c =
     let long = c.survey_bytes.ensures ∙ ap survey_length rest in
     let second = c.cut-2.ensures.rest ∙ ap₂ drop long rest in
     record {
-      first-order = c.cut.ensures.front;
-      first-survey = c.cut-2.ensures.front ∙ ap₂ take long rest;
-      second-order = c.cut-3.ensures.front ∙ ap (take 6) second;
-      second-survey = c.cut-3.ensures.rest ∙ ap (drop 6) second;
+      first_order = c.cut.ensures.front;
+      first_survey = c.cut-2.ensures.front ∙ ap₂ take long rest;
+      second_order = c.cut-3.ensures.front ∙ ap (take 6) second;
+      second_survey = c.cut-3.ensures.rest ∙ ap (drop 6) second;
     }
