@@ -1,12 +1,12 @@
 -- Weights at the front of a buffer.
-use Rattle.std.proofs.Common.{◌≡◌, ℕ, zero, suc, ◌≤◌, cond, leb, List, [], ◌∷◌, ◌++◌, length, get_or, take, ℤ, pos, Ok, Err, Result, sym, refl, ap, ◌∙◌, arith, take-suc}
+use Rattle.std.proofs.Common.{◌≡◌, ℕ, zero, suc, ◌≤◌, List, [], ◌∷◌, ◌++◌, length, get_or, take, ℤ, pos, Ok, Result, sym, refl, ap, ◌∙◌, arith, take-suc}
 use Rattle.std.proofs.lemmas.Bool.{cond-true, le-leb}
 use Rattle.rules.specs.Faults.{carried}
 use Rattle.rules.specs.Meaning.{Meaning}
 use Rattle.rules.specs.declared.fault.Fault.{Fault}
 use Rattle.layers.specs.Layers.{piling}
 use Rattle.session.specs.Orders.{Parts, base_of, layers_of, order_of}
-use Rattle.battenlime.specs.Weights.{fitted, listed, ordered, too_few_places}
+use Rattle.battenlime.specs.Weights.{fitted, listed, ordered}
 
 -- the front of a list, value by value
 pub front_listed : (xs : List ℤ) (n : ℕ) → n ≤ length xs → take n xs ≡ listed n (λ s. get_or xs s (pos 0))

@@ -1,5 +1,5 @@
 -- The law of one case.
-use Rattle.std.proofs.Common.{◌≡◌, ℕ, ◌≤◌, Bool, true, false, cond, leb, List, ◌++◌, length, take, drop, Ok, Err, Result, sym, refl, ap, ◌∙◌, subst, arith}
+use Rattle.std.proofs.Common.{◌≡◌, ℕ, ◌≤◌, Bool, true, false, cond, leb, List, length, take, drop, Ok, Err, Result, sym, refl, ap, ◌∙◌, subst, arith}
 use lib.Seq.{take-append-le}
 use Rattle.std.proofs.lemmas.Bool.{leb-true}
 use Rattle.rules.specs.Faults.{carried}
@@ -7,12 +7,12 @@ use Rattle.rules.specs.Meaning.{Meaning, Sound}
 use Rattle.rules.specs.declared.fault.Cause.{Cause}
 use Rattle.rules.specs.declared.fault.Fault.{Fault}
 use Rattle.rules.specs.declared.fault.Origin.TheVariants.{Layer as FromLayer, Output}
-use Rattle.layers.specs.Layers.{at_place, piled, piling}
+use Rattle.layers.specs.Layers.{at_place, piling}
 use Rattle.layers.specs.declared.layer.Layer.{Layer}
 use Rattle.runs.specs.Ledger.{Entry, blank}
 use Rattle.runs.specs.declared.call.Reply.{Reply}
 use Rattle.claims.specs.Histories.{ledger_after, replies_to}
-use Rattle.claims.specs.Laws.{CaseLaw, PileLaw, RefusedAt}
+use Rattle.claims.specs.Laws.{CaseLaw, PileLaw}
 use Rattle.claims.specs.Replays.{Account, replayed, replies_left, too_few_places}
 use Rattle.claims.proofs.Bands.{band_holds}
 use Rattle.claims.proofs.Keeping.{kept, replies_length, replies_prefix}

@@ -10,7 +10,7 @@ use Rattle.layers.specs.declared.layer.Layer.{Layer}
 use Rattle.runs.specs.Ledger.{Entry, Ledger, answer, step}
 use Rattle.runs.specs.declared.call.Reply.{Reply}
 use Rattle.claims.specs.Histories.{ledger_after, ledger_from, replies_from}
-use Rattle.claims.specs.Replays.{Account, replayed, too_few_places}
+use Rattle.claims.specs.Replays.{replayed, too_few_places}
 
 -- after i calls, whose replies are written as `shown` has them: the ledger is k, and what is left gives the rest of the ledger and of the replies; the places from i on are as they were
 pub record Underway {B : Type 0} (shown : Reply → B) (m : Meaning) (l : Ledger) (rest es : List Entry) (places now : List B) (i : ℕ) (k : Ledger) : Type 0 where

@@ -1,17 +1,16 @@
 -- The law of two cases and the verdict on them.
-use Rattle.std.proofs.Common.{◌≡◌, ℕ, min, Bool, true, false, cond, not, eqb, Some, None, Ok, Err, Option, Result, sym, refl, ap, ◌∙◌, ap₂, arith}
+use Rattle.std.proofs.Common.{◌≡◌, ℕ, min, Bool, true, false, cond, not, eqb, Some, None, Ok, Option, Result, sym, refl, ap, ◌∙◌, ap₂, arith}
 use Rattle.rules.specs.Meaning.{Meaning, Sound}
 use Rattle.rules.specs.declared.fault.Cause.TheVariants.{SpansDiffer}
 use Rattle.rules.specs.declared.fault.Fault.{Fault}
 use Rattle.rules.specs.declared.fault.Origin.TheVariants.{Other, Run}
 use Rattle.runs.specs.Ledger.{Ledger, estimate_of, result_of}
 use Rattle.runs.specs.Totals.{empty_station, fault_at, lowest_empty, given as runs_given}
-use Rattle.runs.specs.Verdicts.{Separates, first_fault, verdict_of, verdict_on, verdict_refusal}
+use Rattle.runs.specs.Verdicts.{first_fault, verdict_of, verdict_on, verdict_refusal}
 use Rattle.runs.proofs.Judging.{given_ok, separates}
 use Rattle.runs.specs.declared.verdict.Verdict.{Verdict}
 use Rattle.runs.specs.declared.verdict.Verdict.TheVariants.{Apart}
 use Rattle.claims.specs.Laws.{VerdictLaw, verdict_between}
-use Rattle.claims.specs.Polynomials.{Fits, OfDegree, Polynomial}
 use Rattle.claims.specs.Replays.{Account}
 use Rattle.claims.proofs.Bands.{common_shared, of_lesser_degree}
 

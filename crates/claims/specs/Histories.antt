@@ -1,5 +1,5 @@
 -- A list of calls on a new run: the ledger and the replies, and what a person who reads the list knows of the ledger.
-use Rattle.std.specs.Prelude.{◌≡◌, ℕ, ◌≤◌, Bool, true, cond, ◌⊎◌, List, [], ◌∷◌, ◌++◌, ℤ, Some, None, Option, ◌==◌, ◌≢◌, nat_le}
+use Rattle.std.specs.Prelude.{◌≡◌, ℕ, ◌≤◌, true, cond, ◌⊎◌, List, [], ◌∷◌, ◌++◌, ℤ, Some, None, Option, ◌==◌, ◌≢◌, nat_le}
 use Rattle.rules.specs.Meaning.{Meaning}
 use Rattle.sources.specs.Readings.{Readings}
 use Rattle.runs.specs.Ledger.{Entry, Ledger, answer, asking, blank, declaring, entering, loading, publishing, refusal, step, striking}

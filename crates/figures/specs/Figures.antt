@@ -11,7 +11,6 @@ use Rattle.rules.specs.Written.{loading}
 use Rattle.layers.specs.Layers.{making, panelled, piling}
 use Rattle.layers.specs.declared.layer.Layer.TheVariants.{Panels, Mirror, Refinement, LowestTerms}
 use Rattle.sources.specs.Polynomials.{polynomial_at}
-use Rattle.sources.specs.Readings.{Readings}
 use Rattle.sources.specs.Searches.{value_of}
 use Rattle.runs.specs.Ledger.{Ledger, result_of}
 use Rattle.runs.specs.Verdicts.{verdict_of}

@@ -1,5 +1,5 @@
 -- Steps of the loops that fill an array of weights.
-use Rattle.std.proofs.Common.{◌≡◌, ℕ, zero, suc, ◌+◌, ◌-◌, ◌*◌, ◌/◌, ◌%◌, ◌^◌, ◌<◌, ◌≤◌, true, cond, eqb, ltb, leb, ◌≢◌, List, length, get_or, set, replicate, ℤ, pos, negsuc, ◌+ℤ◌, ◌*ℤ◌, nat_abs, sym, refl, ap, ◌∙◌, ⊎_elim, mul-le-mul_right, mul-le-mul, mul-le-mul_left, div-le_self, add-one, arith, length-set, get_or-set_other, get_or-set_same}
+use Rattle.std.proofs.Common.{◌≡◌, ℕ, zero, suc, ◌+◌, ◌-◌, ◌*◌, ◌/◌, ◌%◌, ◌^◌, ◌<◌, ◌≤◌, true, cond, eqb, ltb, leb, List, length, get_or, set, replicate, ℤ, pos, negsuc, ◌+ℤ◌, ◌*ℤ◌, nat_abs, sym, ap, ◌∙◌, ⊎_elim, mul-le-mul_right, mul-le-mul, mul-le-mul_left, div-le_self, add-one, arith, length-set, get_or-set_other, get_or-set_same}
 use native.Mathlib.Nat.{div-add-mod, zero-div}
 use lib.IntN.{+ℤ_idr}
 use lib.Signed.{quot_z}

@@ -1,6 +1,6 @@
 -- From the sizes and the weights of a layer to its meaning.
 use Rattle.std.proofs.Common.{◌≡◌, ℕ, suc, ◌*◌, ◌<◌, ◌≤◌, Bool, true, false, eqb, ltb, List, get_or, ℤ, pos, Some, None, Ok, Err, Option, Result, sym, refl, ap, ◌∙◌, subst, mul-le-mul_left, arith}
-use Rattle.rules.specs.Meaning.{Meaning, Sound, Weighting, telling}
+use Rattle.rules.specs.Meaning.{Meaning, Sound, telling}
 use Rattle.rules.specs.declared.fault.Fault.{Fault}
 use Rattle.rules.specs.declared.fault.Cause.{Cause}
 use Rattle.rules.specs.declared.fault.Cause.TheVariants.{SpanLimit}

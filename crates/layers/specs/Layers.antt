@@ -1,9 +1,9 @@
 -- What each layer makes of the rule below it, and when it is refused.
-use Rattle.std.specs.Prelude.{ℕ, suc, ◌+◌, ◌-◌, ◌*◌, ◌/◌, ◌^◌, Bool, true, false, cond, ◌||◌, List, [], ◌∷◌, Some, None, Ok, Err, Option, Result, ◌==◌, nat_lt, slice_index}
+use Rattle.std.specs.Prelude.{ℕ, suc, ◌+◌, ◌-◌, ◌*◌, ◌/◌, ◌^◌, Bool, false, cond, ◌||◌, List, [], ◌∷◌, Some, None, Ok, Err, Option, Result, ◌==◌, nat_lt, slice_index}
 use Rattle.algebra.specs.Divisors.{common_divisor}
 use Rattle.algebra.specs.Weights.{panel_weight, stretch_weight, mirror_weight, refine_weight, reduce_weight}
 use Rattle.rules.specs.Faults.{carried}
-use Rattle.rules.specs.Meaning.{Meaning, Weighting, telling}
+use Rattle.rules.specs.Meaning.{Meaning, telling}
 use Rattle.rules.specs.declared.fault.Fault.{Fault}
 use Rattle.rules.specs.declared.fault.Cause.{Cause}
 use Rattle.rules.specs.declared.fault.Cause.TheVariants.{CountZero, SpanLimit, DegreeLimit, SizeLimit}

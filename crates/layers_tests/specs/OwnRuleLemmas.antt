@@ -1,5 +1,5 @@
 -- The rule keeps the promises of a rule.
-use Rattle.std.specs.Prelude.{◌≡◌, ℕ, zero, suc, [], ◌∷◌, pos, negsuc, ◌≤ℤ◌, refl}
+use Rattle.std.specs.Prelude.{zero, suc, [], ◌∷◌, pos, negsuc, ◌≤ℤ◌, refl}
 use Rattle.std.proofs.Common.{arith, lit≤}
 use borrow.Author.Differences.{ints, at_most_in}
 use Rattle.std.proofs.lemmas.List.{get_or_past}

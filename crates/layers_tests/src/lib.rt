@@ -9,7 +9,9 @@ use rules::Rule;
 #[cfg(test)]
 mod tests {
     use crate::own_rule::Lopsided;
-    use layers::{Layer, lowest_terms, mirror, panels, pile, refine, stretch};
+    use layers::{
+        Layer, lay as lay_list, lowest_terms, mirror, panels, pile, refine, stretch, table_of,
+    };
     use rules::{BuiltIn, Fault, Rule, Table};
     use std::process::Abort;
     use std::test::Fail;
@@ -544,6 +546,39 @@ mod tests {
         for case in &BEYOND_LIMITS {
             stopped(&rt, case)?;
         }
+        Ok(())
+    }
+
+    // A refusal in the middle of a list: the layers before it stay on the table.
+    #[test]
+    fn layers_on_a_table(rt: HostRuntime) -> Result<(), Fail> {
+        let simpson = Figures {
+            denominator: 3,
+            degree: 3,
+            symmetric: true,
+            ceiling: 6,
+            weights: &[1, 4, 1],
+        };
+        let doubled = Figures {
+            denominator: 3,
+            degree: 3,
+            symmetric: true,
+            ceiling: 12,
+            weights: &[1, 4, 2, 4, 1],
+        };
+        let mut table = table_of(BuiltIn::Simpson);
+        tells(&rt, &table, &simpson);
+        lay_list(&mut table, &[])?;
+        tells(&rt, &table, &simpson);
+        let list = [Layer::Panels(2), Layer::Stretch(0), Layer::Panels(3)];
+        match lay_list(&mut table, &list) {
+            Ok(()) => return Err(Fail::new("a count of 0")),
+            Err(fault) => {
+                assert_eq!(rt; fault.cause.number(), 6);
+                assert_eq!(rt; fault.place, 2);
+            }
+        }
+        tells(&rt, &table, &doubled);
         Ok(())
     }
 }

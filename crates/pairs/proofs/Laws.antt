@@ -1,10 +1,10 @@
 -- The law of the verdict, over the bytes of two cases.
-use Rattle.std.proofs.Common.{◌≡◌, ℕ, List, Ok, Err, Option, Result, sym, refl, ap, ◌∙◌, subst, arith}
+use Rattle.std.proofs.Common.{◌≡◌, ℕ, List, Ok, Err, Option, Result, sym, refl, ◌∙◌, subst, arith}
 use Rattle.rules.specs.Faults.{carried}
 use Rattle.rules.specs.Meaning.{Meaning, Sound}
 use Rattle.rules.specs.declared.fault.Fault.{Fault}
 use Rattle.rules.specs.Rows.{built_in_sound}
-use Rattle.layers.specs.Layers.{piled, piling}
+use Rattle.layers.specs.Layers.{piling}
 use Rattle.sources.specs.Readings.{Readings}
 use Rattle.sources.specs.Surveys.{survey_of}
 use Rattle.runs.specs.Ledger.{blank, loading, step}

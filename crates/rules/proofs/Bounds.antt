@@ -1,8 +1,7 @@
 -- Bounds that follow from what a rule promises.
-use Rattle.std.proofs.Common.{◌≡◌, ℕ, suc, ◌^◌, ◌<◌, ◌≤◌, ℤ, pos, nat_abs, ap, ⊎_elim, arith}
-use borrow.Author.Differences.{ints, le_out}
+use Rattle.std.proofs.Common.{ℕ, ◌^◌, ◌≤◌, nat_abs, ap, ⊎_elim, arith}
+use borrow.Author.Differences.{le_out}
 use Rattle.std.proofs.lemmas.Bool.{cases_lt}
-use Rattle.algebra.specs.Sums.{sum, abs}
 use Rattle.algebra.proofs.Absolute.{abs_term}
 use Rattle.rules.specs.Meaning.{Meaning, Sound}
 

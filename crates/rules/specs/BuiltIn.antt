@@ -1,5 +1,5 @@
 -- The rules that are built in: one row for each code, 1 to 10.
-use Rattle.std.specs.Prelude.{ℕ, suc, ◌-◌, Bool, true, false, cond, ◌&&◌, List, [], ◌∷◌, get_or, ℤ, pos, negsuc, Ok, Err, Result, nat_le, slice_index_or, unsigned_abs}
+use Rattle.std.specs.Prelude.{ℕ, suc, ◌-◌, true, false, cond, ◌&&◌, List, [], ◌∷◌, get_or, pos, negsuc, Ok, Err, Result, nat_le, slice_index_or, unsigned_abs}
 use Rattle.algebra.specs.Sums.{sum, abs}
 use Rattle.rules.specs.Meaning.{Meaning, telling}
 use Rattle.rules.specs.declared.built_in.BuiltIn.{BuiltIn}

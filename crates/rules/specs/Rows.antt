@@ -1,7 +1,6 @@
 -- The table of the built-in rules: one test over all its rows, and what a row that passes it promises.
-use Rattle.std.specs.Prelude.{◌≡◌, ℕ, zero, suc, ◌+◌, ◌-◌, ◌*◌, ◌%◌, ◌^◌, ◌<◌, ◌≤◌, Bool, true, false, not, ◌&&◌, ◌||◌, ◌⊎◌, List, [], ◌∷◌, length, ℤ, pos, negsuc, ◌*ℤ◌, ◌≤ℤ◌, ◌==◌, nat_le, slice_index_or, unsigned_abs, refl}
-use Rattle.std.proofs.Common.{sym, ap, subst, ◌∙◌, ⊎_elim, arith}
-use Rattle.std.specs.Int.Signed.{le_z}
+use Rattle.std.specs.Prelude.{◌≡◌, ℕ, zero, suc, ◌-◌, ◌%◌, ◌^◌, ◌<◌, ◌≤◌, Bool, true, false, not, ◌&&◌, ◌||◌, [], length, ℤ, pos, negsuc, ◌*ℤ◌, ◌==◌, nat_le, slice_index_or, unsigned_abs, refl}
+use Rattle.std.proofs.Common.{sym, ap, ⊎_elim, arith}
 use borrow.Author.Differences.{ints, at_most_in}
 use Rattle.std.proofs.lemmas.Bool.{and_parts, both_ways, cases_lt, eqb-true, leb-true, not-true, or_cases}
 use Rattle.std.proofs.lemmas.Bool.Decides.{Decides-below_and}
@@ -12,7 +11,6 @@ use Rattle.rules.specs.Meaning.{Sound}
 use Rattle.rules.specs.BuiltIn.{rows, row_of, meaning_of_row, code_of}
 use Rattle.rules.specs.declared.built_in.Row.{Row}
 use Rattle.rules.specs.declared.built_in.BuiltIn.{BuiltIn}
-use Rattle.rules.specs.declared.built_in.BuiltIn.TheVariants.{Trapezoid, Simpson, ThreeEighths, Boole, SixPoint, SevenPoint, EightPoint, NinePoint, Midpoint, LeftRectangle}
 
 abbrev eqZ : ℤ → ℤ → Bool
 eqZ (pos a) (pos b) = a == b

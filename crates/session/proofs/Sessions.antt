@@ -1,5 +1,5 @@
 -- The steps of a session, each accepted.
-use Rattle.std.proofs.Common.{◌≡◌, ℕ, ◌≤◌, leb, List, ◌++◌, length, drop, Some, None, Ok, Err, Option, Result, sym, ap, ◌∙◌, arith}
+use Rattle.std.proofs.Common.{◌≡◌, ℕ, ◌≤◌, leb, List, ◌++◌, length, drop, Some, None, Ok, Err, Option, Result, ap, ◌∙◌, arith}
 use Rattle.std.proofs.lemmas.Bool.{cond_both, leb-true}
 use Rattle.rules.specs.Faults.{carried}
 use Rattle.rules.specs.Meaning.{Meaning}
@@ -10,7 +10,6 @@ use Rattle.sources.specs.Surveys.{survey_of}
 use Rattle.runs.specs.Ledger.{blank, loading, result_of, step}
 use Rattle.session.specs.Orders.{Parts, base_of, layers_of, order_of}
 use Rattle.report.specs.Reports.{Outcome, delivered, line_of_fault, line_of_result, too_short}
-use Rattle.report.specs.declared.written.Written.{Written}
 use Rattle.runs.specs.declared.estimate.Estimate.{Estimate}
 use Rattle.session.specs.Sessions.{estimated, reported}
 

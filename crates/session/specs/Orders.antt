@@ -1,5 +1,5 @@
 -- What the bytes of an order ask for.
-use Rattle.std.specs.Prelude.{ℕ, ◌+◌, ◌*◌, cond, not, List, [], ◌∷◌, ◌++◌, length, replicate, Ok, Err, Result, ◌==◌, nat_le, slice_index}
+use Rattle.std.specs.Prelude.{ℕ, ◌+◌, ◌*◌, cond, List, [], ◌∷◌, ◌++◌, length, replicate, Ok, Err, Result, ◌==◌, nat_le, slice_index}
 use Rattle.rules.specs.BuiltIn.{meaning_of_row, of_code, row_of}
 use Rattle.rules.specs.Faults.{carried}
 use Rattle.rules.specs.Meaning.{Meaning}

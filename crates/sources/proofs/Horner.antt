@@ -3,7 +3,7 @@ use Rattle.std.proofs.Common.{◌≡◌, ℕ, zero, suc, ◌+◌, ◌-◌, ◌*�
 use mathlib.Core.Path.{fun_ext}
 use lib.IntN.{+ℤ_assoc, *ℤ_comm}
 use borrow.Author.Differences.{up, down, ints, product_is}
-use Rattle.std.proofs.lemmas.Bool.{cases_lt, both_ways, and_cases, and_parts, and_from, and_right, lt-ltb, ltb-true, ltb-false, lt-leb, le-leb, cond-true, cond-false}
+use Rattle.std.proofs.lemmas.Bool.{both_ways, and_cases, and_parts, and_from, and_right, lt-ltb, ltb-true, ltb-false, lt-leb, le-leb, cond-true, cond-false}
 use Rattle.std.proofs.lemmas.Int.{to_z-of_z, to_z_pos}
 use Rattle.algebra.specs.Sums.{sum, ◌^ℤ◌}
 use Rattle.algebra.proofs.Integers.{*ℤ_distl}

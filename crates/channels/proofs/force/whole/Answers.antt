@@ -1,5 +1,5 @@
 -- `whole` gives the whole number that the float is: `Wholes` has the tests.
-use Rattle.std.proofs.Common.{◌≡◌, true, false, sym, ◌∙◌, to_z-of_z, w64, SFits, rules}
+use Rattle.std.proofs.Common.{sym, ◌∙◌, to_z-of_z, w64, SFits, rules}
 use Rattle.channels.proofs.Wholes.{accepted, refused_unlike, refused_beyond}
 use Rattle.channels.proofs.force.whole.Goals as goal
 use Rattle.channels.proofs.force.whole.Goals.{else-is_in_range-via-then-is_in_range+else-nearest_i64_to_f32-value, else-is_in_range-via-else-is_in_range}

@@ -1,4 +1,4 @@
-use Rattle.std.proofs.Common.{◌≡◌, map, take, drop}
+use Rattle.std.proofs.Common.{◌≡◌, map, drop}
 use Rattle.runs.specs.Recorded.{entry_of, ledger_of}
 use Rattle.rules.specs.Tables.{told}
 use Rattle.claims.proofs.Replaying.{Underway}

@@ -1,12 +1,11 @@
-use Rattle.std.proofs.Common.{◌≡◌, ◌++◌, map, length, drop, Ok, Err, sym, ap, ◌∙◌, ap₂, arith}
+use Rattle.std.proofs.Common.{◌++◌, map, length, drop, Ok, Err, sym, ap, ◌∙◌, ap₂, arith}
 use lib.ListN.{length-map}
 use Rattle.rules.specs.Tables.{told}
 use Rattle.rules.specs.declared.fault.Cause.TheVariants.{BufferShort}
-use Rattle.rules.specs.declared.fault.Fault.{Fault}
 use Rattle.rules.specs.declared.fault.Origin.TheVariants.{Output}
-use Rattle.runs.specs.Recorded.{entry_of, ledger_of}
-use Rattle.claims.specs.Histories.{ledger_after, ledger_from, replies_from, replies_to}
-use Rattle.claims.specs.Replays.{Account, replies_left, too_few_places}
+use Rattle.runs.specs.Recorded.{entry_of}
+use Rattle.claims.specs.Histories.{ledger_from, replies_from, replies_to}
+use Rattle.claims.specs.Replays.{replies_left}
 use Rattle.claims.proofs.Replaying.{replayed_short, replayed_whole}
 use Rattle.claims.proofs.one_case.replay.Goals as goal
 

@@ -1,4 +1,4 @@
-use Rattle.std.proofs.Common.{◌≡◌, ℕ, suc, nat_abs, sym, ap, ◌∙◌, add-one, arith}
+use Rattle.std.proofs.Common.{◌≡◌, suc, nat_abs, sym, ap, ◌∙◌, add-one, arith}
 use borrow.Author.Differences.{ints}
 use Rattle.algebra.specs.Divisors.{gcd, common_divisor}
 use Rattle.algebra.proofs.Divisors.{common_divisor_bounded, common_divisor_positive}

@@ -1,4 +1,4 @@
-use Rattle.std.proofs.Common.{◌≡◌, ◌^◌, ◌<◌, ◌≤◌, ℤ, pos, ◌+ℤ◌, ◌-ℤ◌, ◌*ℤ◌, nat_abs, refl, arith, to_z-of_z, w64, SFits}
+use Rattle.std.proofs.Common.{◌^◌, ◌<◌, ◌≤◌, pos, ◌+ℤ◌, ◌-ℤ◌, ◌*ℤ◌, nat_abs, arith, to_z-of_z, w64, SFits}
 use borrow.Author.Differences.{ints}
 use mir.Val.{hbits}
 use mir.Facts.{to_z_pos}

@@ -1,4 +1,4 @@
-use Rattle.std.proofs.Common.{◌≡◌, ◌/◌, ◌%◌, pos, ◌*ℤ◌, sym, ap, ◌∙◌, arith, to_z-of_z, w64, SFits}
+use Rattle.std.proofs.Common.{◌/◌, pos, ◌*ℤ◌, sym, ap, ◌∙◌, arith, to_z-of_z, w64, SFits}
 use borrow.Author.Differences.{ints}
 use Rattle.std.proofs.lemmas.Bool.{cond-true, eq-eqb}
 use Rattle.rules.proofs.Bounds.{weight_bound}

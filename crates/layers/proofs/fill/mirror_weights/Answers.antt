@@ -1,9 +1,7 @@
-use Rattle.std.proofs.Common.{◌≡◌, ◌-◌, ◌^◌, ◌<◌, ◌≤◌, sym, ap, ◌∙◌, arith, to_z-of_z, w64, SFits, rules}
-use borrow.Author.Differences.{ints}
-use mir.Facts.{to_z_pos}
+use Rattle.std.proofs.Common.{◌-◌, ◌≤◌, sym, ap, ◌∙◌, arith, to_z-of_z, w64, SFits, rules}
 use Rattle.std.proofs.lemmas.Bool.{cond-true, le-leb}
 use Rattle.algebra.specs.Weights.{mirror_weight}
-use Rattle.layers.proofs.Filling.{filled_none, filled_more, filled_all}
+use Rattle.layers.proofs.Filling.{filled_none, filled_more}
 use Rattle.layers.proofs.fill.mirror_weights.Goals as goal
 
 pub loop-station-init : goal.loop-station-init

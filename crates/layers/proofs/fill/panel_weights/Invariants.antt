@@ -1,4 +1,3 @@
-use Rattle.std.proofs.Common.{◌≡◌, ℕ, get_or, pos}
 use Rattle.algebra.specs.Weights.{panel_weight}
 use Rattle.layers.specs.Filled.{Holds}
 use Rattle.layers.proofs.fill.panel_weights.Given as goal

@@ -1,4 +1,4 @@
-use Rattle.std.proofs.Common.{◌≡◌, ◌-◌, ◌^◌, ◌<◌, ◌≤◌, pos, sym, ap, ◌∙◌, arith, to_z-of_z, w64, SFits, rules}
+use Rattle.std.proofs.Common.{◌^◌, ◌<◌, pos, ap, arith, to_z-of_z, w64, SFits, rules}
 use borrow.Author.Differences.{ints}
 use mir.Facts.{to_z_pos}
 use lib.Signed.{quot_z}

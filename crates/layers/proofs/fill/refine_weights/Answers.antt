@@ -1,7 +1,6 @@
-use Rattle.std.proofs.Common.{◌≡◌, ◌-◌, ◌^◌, ◌<◌, ◌≤◌, pos, ◌+ℤ◌, ◌-ℤ◌, ◌*ℤ◌, sym, ap, ◌∙◌, arith, to_z-of_z, w64, SFits, rules}
+use Rattle.std.proofs.Common.{◌≡◌, ◌^◌, pos, ◌+ℤ◌, ◌-ℤ◌, ◌*ℤ◌, ap, ◌∙◌, arith, to_z-of_z, w64, SFits, rules}
 use borrow.Author.Differences.{ints}
-use mir.Facts.{to_z_pos}
-use Rattle.algebra.specs.Weights.{refine_weight, shifted, stretch_weight}
+use Rattle.algebra.specs.Weights.{refine_weight, shifted}
 use Rattle.algebra.proofs.Rows.{refine_beyond}
 use Rattle.rules.proofs.Bounds.{weight_bound}
 use Rattle.layers.proofs.Filling.{shifted_bound, stretch_bound}

@@ -1,4 +1,4 @@
-use Rattle.std.proofs.Common.{◌≡◌, ℕ, ◌+◌, ◌*◌, ◌^◌, ◌<◌, ◌≤◌, pos, ◌*ℤ◌, refl, ap, ◌∙◌, mul-le-mul_left, mul-zero, arith, to_z-of_z, w64, SFits, rules}
+use Rattle.std.proofs.Common.{◌≡◌, ℕ, ◌+◌, ◌*◌, ◌^◌, ◌<◌, ◌≤◌, pos, ◌*ℤ◌, ap, mul-le-mul_left, mul-zero, arith, to_z-of_z, w64, SFits, rules}
 use borrow.Author.Differences.{ints}
 use mir.Val.{hbits}
 use mir.Facts.{to_z_pos}

@@ -1,6 +1,6 @@
-use Rattle.std.proofs.Common.{◌≡◌, ℕ, Bool, List, get_or, ℤ, pos, refl, ap, ◌∙◌}
+use Rattle.std.proofs.Common.{◌≡◌, ℕ, List, ℤ, refl, ap, ◌∙◌}
 use Rattle.algebra.specs.Weights.{reduce_weight}
-use Rattle.rules.specs.Meaning.{Meaning, Sound, telling}
+use Rattle.rules.specs.Meaning.{Meaning}
 use Rattle.layers.specs.Filled.{Holds}
 use Rattle.layers.specs.Layers.{divisor_of, reduced}
 use Rattle.layers.specs.Sizing.{divided_sizes, sizes_of}

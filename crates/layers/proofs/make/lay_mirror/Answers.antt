@@ -1,4 +1,3 @@
-use Rattle.std.proofs.Common.{None}
 use Rattle.layers.specs.Layers.{mirrored}
 use Rattle.layers.specs.declared.layer.Layer.TheVariants.{Mirror}
 use Rattle.layers.proofs.Keeps.{made_sound, mirror_accepted}

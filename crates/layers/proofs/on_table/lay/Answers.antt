@@ -1,4 +1,4 @@
-use Rattle.std.proofs.Common.{ap, ◌∙◌, rules}
+use Rattle.std.proofs.Common.{ap, ◌∙◌}
 use Rattle.rules.specs.Tables.{told}
 use Rattle.layers.specs.declared.layer.Layer.TheVariants.{Panels}
 use Rattle.layers.proofs.Piling.{piling_more, reached_more, reached_refused}

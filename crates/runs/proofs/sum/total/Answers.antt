@@ -3,7 +3,6 @@ use borrow.Author.Differences.{ints}
 use mir.Val.{hbits}
 use Rattle.std.proofs.lemmas.Int.{to_z-of_z, to_z_pos}
 use Rattle.rules.specs.declared.fault.Origin.TheVariants.{Run}
-use Rattle.algebra.specs.Sums.{sum}
 use Rattle.algebra.proofs.Sums.{sum_none}
 use Rattle.rules.proofs.Bounds.{weight_bound}
 use Rattle.runs.specs.Totals.{lacks, empty_station, given, sum_of}

@@ -2,7 +2,7 @@ use Rattle.std.proofs.Common.{ℤ, nat_abs, sym, ap, ◌∙◌, arith, w64, SFit
 use Rattle.std.proofs.lemmas.Int.{to_z-of_z}
 use Rattle.runs.specs.Changes.{with_value}
 use Rattle.runs.specs.Holding.{readings_held}
-use Rattle.runs.proofs.Loads.{taken, taken_skip, taken_more, taken_all}
+use Rattle.runs.proofs.Loads.{taken_skip, taken_more, taken_all}
 use Rattle.runs.proofs.held.Held.take_readings.Goals as goal
 
 pub put-requires : goal.put-requires
