@@ -15,14 +15,14 @@ import sys
 TOKEN = re.compile(r"[^\s(){}\[\];,.«»\"·]+")
 SIGNATURE = re.compile(r"^\s*(?:(?:pub|abbrev|unfoldable|record|data|package)\s+)*([^\s(){}\[\];,.:]+)\s*(?:\{[^}]*\}\s*|\([^)]*\)\s*)*:\s*(\S+)?")
 ALIAS = re.compile(r"\bas\s+([^\s(){}\[\];,.]+)")
-# Names that would fall together with a function, a label or a ghost field of their crate.
+# Names that meet a function or a label of their crate. A definition may have its function's name, a lemma gets an ending.
 APART = {
-    "absolute-sum": "absolute_sum_lem",
+    "absolute-sum": "absolute_sum",
     "figures-hold": "figures_hold_lem",
-    "in-range": "within_range",
+    "in-range": "is_in_range",
     "laws-have-cases": "laws_have_cases_lem",
-    "layer-number": "number_of_layer",
-    "reading-or-zero": "value_or_zero",
+    "layer-number": "layer_number",
+    "reading-or-zero": "reading_or_zero",
     "verdict-law": "verdict_law_lem",
 }
 MADE = re.compile(r"^(goal|goals|need|needs|given|row)\.")
@@ -102,6 +102,8 @@ def fallen(names):
         if to in new:
             found.append((old, new[to], "both turn to " + to))
         new[to] = old
+        if old in APART:
+            continue
         for crate, words in by_crate.items():
             if old in words and to in words:
                 found.append((old, to, f"{words[old]} and {words[to]}"))

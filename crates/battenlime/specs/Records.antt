@@ -14,18 +14,18 @@ use Rattle.battenlime.specs.declared.records.RefusalRecord.{RefusalRecord}
 use Rattle.battenlime.specs.declared.records.VerdictRecord.{VerdictRecord}
 
 -- the number that stands for a layer of the library
-abbrev pub number_of_layer : Origin → ℕ
-number_of_layer Rule = 1
-number_of_layer Layer = 2
-number_of_layer Source = 3
-number_of_layer Run = 4
-number_of_layer Other = 5
-number_of_layer Order = 6
-number_of_layer Output = 7
+abbrev pub layer_number : Origin → ℕ
+layer_number Rule = 1
+layer_number Layer = 2
+layer_number Source = 3
+layer_number Run = 4
+layer_number Other = 5
+layer_number Order = 6
+layer_number Output = 7
 
 -- a refusal, or three zeros
 abbrev pub refusal_shown : Option Fault → RefusalRecord
-refusal_shown (Some f) = record { number = number_of f.cause; layer = number_of_layer f.layer; place = f.place }
+refusal_shown (Some f) = record { number = number_of f.cause; layer = layer_number f.layer; place = f.place }
 refusal_shown None = record { number = 0; layer = 0; place = 0 }
 
 abbrev pub line_shown : Written → LineRecord

@@ -4,7 +4,7 @@ use mathlib.Core.Bool.{beq}
 use lib.Ieee.{Float, nan, inf, fin, binary32, up, down, round, of_int, to_signed, eq}
 use lib.Ieee.Exact.{HasValue, round_exact}
 use borrow.Author.Tests.{lt-leb}
-use Rattle.sources.specs.Readings.{within_range}
+use Rattle.sources.specs.Readings.{is_in_range}
 use Rattle.channels.specs.Floats.{with_sign, whole_reading}
 
 down_pos : (e : ℤ) → 0 < down e
@@ -85,11 +85,11 @@ size_minus : (n : ℕ) → nat_abs (neg_ℤ (pos n)) ≡ n
 size_minus zero = refl
 size_minus (suc n) = refl
 
-capped_many : (s : Bool) (q : ℕ) → 1048576 < q → within_range (capped s q) ≡ false
+capped_many : (s : Bool) (q : ℕ) → 1048576 < q → is_in_range (capped s q) ≡ false
 capped_many true q h = lt-leb _ _ (let is : nat_abs (capped true q) ≡ min q (2 ^ 63) = size_minus (min q (2 ^ 63)) in omega (arith, is))
 capped_many false q h = lt-leb _ _ (omega arith)
 
-in_range_few : (s : Bool) (q : ℕ) → q ≤ 1048576 → within_range (with_sign s q) ≡ true
+in_range_few : (s : Bool) (q : ℕ) → q ≤ 1048576 → is_in_range (with_sign s q) ≡ true
 in_range_few true q h = le-leb _ _ (let is : nat_abs (with_sign true q) ≡ q = size_minus q in omega (arith, is))
 in_range_few false q h = le-leb _ _ h
 
@@ -102,7 +102,7 @@ and_false false c e = refl
 
 -- the test on the cut number w of the float x
 abbrev tested : ℤ → Float → Option ℤ
-tested w x = cond (within_range w && eq (of_int binary32 w) x) (Some w) None
+tested w x = cond (is_in_range w && eq (of_int binary32 w) x) (Some w) None
 
 finite : (s : Bool) (m : ℕ) (e : ℤ) (b : Bool) → leb (m * up e / down e) 1048576 ≡ b → whole_reading (fin s m e) ≡ tested (capped s (m * up e / down e)) (fin s m e)
 finite s m e true h =
@@ -123,7 +123,7 @@ never_nan nan = refl
 never_nan (inf s) = refl
 never_nan (fin s m e) = refl
 
-pub whole_tested : (x : Float) → whole_reading x ≡ cond (within_range (to_signed 63 x) && eq (of_int binary32 (to_signed 63 x)) x) (Some (to_signed 63 x)) None
+pub whole_tested : (x : Float) → whole_reading x ≡ cond (is_in_range (to_signed 63 x) && eq (of_int binary32 (to_signed 63 x)) x) (Some (to_signed 63 x)) None
 unfolding to_signed
 whole_tested nan = sym (ap (λ (b : Bool). cond b (Some (pos 0)) None) (never_nan (of_int binary32 (pos 0))))
 whole_tested (inf true) = refl
@@ -131,7 +131,7 @@ whole_tested (inf false) = refl
 whole_tested (fin s m e) = finite s m e (leb (m * up e / down e) 1048576) refl
 
 -- the tests as the code makes them, on the cut number v and its float y
-pub accepted : (x y : Float) (v : ℤ) → v ≡ to_signed 63 x → within_range v ≡ true → y ≡ of_int binary32 v → eq y x ≡ true → Some v ≡ whole_reading x
+pub accepted : (x y : Float) (v : ℤ) → v ≡ to_signed 63 x → is_in_range v ≡ true → y ≡ of_int binary32 v → eq y x ≡ true → Some v ≡ whole_reading x
 accepted x y v cut range float same =
     sym (whole_tested x
     ∙ ap (λ (w : ℤ). tested w x) (sym cut)
@@ -139,7 +139,7 @@ accepted x y v cut range float same =
     ∙ ap (λ (f : Float). cond (eq f x) (Some v) None) (sym float)
     ∙ ap (λ (b : Bool). cond b (Some v) None) same)
 
-pub refused_unlike : (x y : Float) (v : ℤ) → v ≡ to_signed 63 x → within_range v ≡ true → y ≡ of_int binary32 v → eq y x ≡ false → None ≡ whole_reading x
+pub refused_unlike : (x y : Float) (v : ℤ) → v ≡ to_signed 63 x → is_in_range v ≡ true → y ≡ of_int binary32 v → eq y x ≡ false → None ≡ whole_reading x
 refused_unlike x y v cut range float unlike =
     sym (whole_tested x
     ∙ ap (λ (w : ℤ). tested w x) (sym cut)
@@ -147,7 +147,7 @@ refused_unlike x y v cut range float unlike =
     ∙ ap (λ (f : Float). cond (eq f x) (Some v) None) (sym float)
     ∙ ap (λ (b : Bool). cond b (Some v) None) unlike)
 
-pub refused_beyond : (x : Float) (v : ℤ) → v ≡ to_signed 63 x → within_range v ≡ false → None ≡ whole_reading x
+pub refused_beyond : (x : Float) (v : ℤ) → v ≡ to_signed 63 x → is_in_range v ≡ false → None ≡ whole_reading x
 refused_beyond x v cut range =
     sym (whole_tested x
     ∙ ap (λ (w : ℤ). tested w x) (sym cut)

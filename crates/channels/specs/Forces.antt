@@ -4,16 +4,16 @@ use Rattle.rules.specs.declared.fault.Fault.{Fault}
 use Rattle.rules.specs.declared.fault.Cause.TheVariants.{ForceComponent}
 use Rattle.sources.specs.Refusals.{refused}
 use Rattle.channels.specs.Floats.{whole_reading}
-use Rattle.channels.specs.Kinds.{value_or_zero}
+use Rattle.channels.specs.Kinds.{reading_or_zero}
 use Rattle.channels.specs.declared.force.Force.{Force}
 use Rattle.channels.specs.declared.force.RawForce.{RawForce}
 
 -- the components 0, 1 and 2 are x, y and z
 abbrev pub force_told : Force → ℕ → ℤ
 force_told f i =
-    cond (i == 0) (value_or_zero f.x)
-    (cond (i == 1) (value_or_zero f.y)
-    (cond (i == 2) (value_or_zero f.z) (pos 0)))
+    cond (i == 0) (reading_or_zero f.x)
+    (cond (i == 1) (reading_or_zero f.y)
+    (cond (i == 2) (reading_or_zero f.z) (pos 0)))
 
 -- a component, refused where its float is no whole number within the range
 abbrev pub component_made : Option ℤ → ℕ → Result ℤ Fault

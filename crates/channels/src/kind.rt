@@ -1,6 +1,6 @@
 // A kind of reading, by the components that its records tell.
 ghost use Rattle.std.specs.Prelude.{◌≡◌, ℕ, ◌≤◌, ℤ, pos};
-ghost use Rattle.channels.specs.Kinds.{value_or_zero};
+ghost use Rattle.channels.specs.Kinds.{reading_or_zero};
 ghost use Rattle.sources.specs.Readings.{InRange};
 
 use sources::is_in_range;
@@ -34,7 +34,7 @@ pub trait ReadingKind {
 
 // What a kept number tells: itself where it is a reading, and 0 beyond the range.
 pub fn reading_or_zero(value: i64) -> i64
-    ensures { result ≡ value_or_zero value }
+    ensures { result ≡ reading_or_zero value }
 {
     if is_in_range(value) { value } else { 0 }
 }

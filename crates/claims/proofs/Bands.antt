@@ -16,7 +16,7 @@ use Rattle.sources.proofs.Searches.{first_none}
 use Rattle.runs.specs.declared.estimate.Estimate.{Estimate}
 use Rattle.runs.specs.Fractions.{Proper}
 use Rattle.runs.specs.Ledger.{estimate_of, result_of}
-use Rattle.runs.specs.Totals.{absolute_sum_lem, empty_station, lacks, lowest_empty, value_of, weighted_sum}
+use Rattle.runs.specs.Totals.{absolute_sum, empty_station, lacks, lowest_empty, value_of, weighted_sum}
 use Rattle.runs.specs.Verdicts.{inside, shared}
 use Rattle.runs.proofs.Judging.{given_ok}
 use Rattle.claims.specs.Polynomials.{Fits, OfDegree, Polynomial, coefficient, integral, numerator_at, power_integrals}
@@ -95,7 +95,7 @@ not_empty None e = refl
 -- the weighted sum of the readings is within the radius of that of the values: |q·V − P| ≤ q·R
 sum_within : (m : Meaning) (r : Readings) → lowest_empty m.weighting r ≡ None → (p : Polynomial) → Fits p r →
     abs ((pos p.denominator *ℤ weighted_sum m.weighting r) -ℤ sum m.weighting.stations (λ s. m.weighting.weight s *ℤ numerator_at p s))
-    ≤ℤ (pos p.denominator *ℤ (pos r.tolerance *ℤ absolute_sum_lem m.weighting))
+    ≤ℤ (pos p.denominator *ℤ (pos r.tolerance *ℤ absolute_sum m.weighting))
 sum_within m r full p fits =
     let n : ℕ = m.weighting.stations in
     let W : ℕ → ℤ = m.weighting.weight in
@@ -104,7 +104,7 @@ sum_within m r full p fits =
     let v : ℕ → ℤ = λ s. value_of (r.reading s) in
     ≤ℤ_of_eq (ap abs (sym (deviation n W v (numerator_at p) q)))
     ≤∙ band n W v (numerator_at p) (λ s. t) q (λ s h w. fits s (v s) (read_there (W s) (r.reading s) (first_none (λ s. lacks (W s) (r.reading s)) n full s h) w))
-    ≤∙ ≤ℤ_of_eq (ap (λ (x : ℤ). q *ℤ x) (sym (sum_scale_right t n (λ s. abs (W s))) ∙ *ℤ_comm (absolute_sum_lem m.weighting) t))
+    ≤∙ ≤ℤ_of_eq (ap (λ (x : ℤ). q *ℤ x) (sym (sum_scale_right t n (λ s. abs (W s))) ∙ *ℤ_comm (absolute_sum m.weighting) t))
 
 -- so d·P lies from d·q·(V − R) to d·q·(V + R)
 above : (x y p : ℤ) → abs (x -ℤ p) ≤ℤ y → (x -ℤ y) ≤ℤ p
@@ -139,7 +139,7 @@ band_holds m sound r e there p small fits =
     sym (weighted_value (suc m.span) W p) ∙ ap (λ (k : ℕ). sum k (λ s. W s *ℤ numerator_at p s)) (sym sound.span.stations)
     ) in
     subst (λ (x : Estimate). inside (integral p m.span) x) (sym result.0)
-    (between (weighted_sum m.weighting r) (pos r.tolerance *ℤ absolute_sum_lem m.weighting) (sum m.weighting.stations (λ s. W s *ℤ numerator_at p s))
+    (between (weighted_sum m.weighting r) (pos r.tolerance *ℤ absolute_sum m.weighting) (sum m.weighting.stations (λ s. W s *ℤ numerator_at p s))
     ((power_integrals (coefficient p) m.span n).numerator *ℤ pos m.weighting.denominator) (power_integrals (coefficient p) m.span n).denominator p.denominator exact within)
 
 -- the integral has a positive denominator

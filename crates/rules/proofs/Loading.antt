@@ -15,7 +15,7 @@ use Rattle.algebra.proofs.Absolute.{≤ℤ_of_eq, abs_mul, sum_abs_more}
 use Rattle.algebra.proofs.Moments.{symmetric_gain}
 use Rattle.algebra.proofs.Powers.{pow_zero, pow_suc}
 use Rattle.rules.specs.Meaning.{Sound, telling}
-use Rattle.rules.specs.Written.{equal, every, or_else, first_failing, weight_in, absolute_sum_lem, moment_of, integrates, last_station, reads_same, degree_told, accepted}
+use Rattle.rules.specs.Written.{equal, every, or_else, first_failing, weight_in, absolute_sum, moment_of, integrates, last_station, reads_same, degree_told, accepted}
 
 -- a sum of absolute values is a natural number
 pub absolute_natural : (n : ℕ) (W : ℕ → ℤ) → sum n (λ s. abs (W s)) ≡ pos (nat_abs (sum n (λ s. abs (W s))))
@@ -89,7 +89,7 @@ pub moment_more : (n : ℕ) (f : ℕ → ℤ) → sum n f +ℤ f n ≡ sum (n + 
 moment_more n f = let e : suc n ≡ n + 1 = omega arith in sym (sum_more n f) ∙ ap (λ t. sum t f) e
 
 -- both sides of the test of a power
-pub left_small : (ws : List ℤ) (k : ℕ) → length ws ≤ 17 → k ≤ 9 → absolute_sum_lem ws ≤ 1048576 → nat_abs (pos (suc k) *ℤ moment_of ws k) ≤ 2 ^ 62
+pub left_small : (ws : List ℤ) (k : ℕ) → length ws ≤ 17 → k ≤ 9 → absolute_sum ws ≤ 1048576 → nat_abs (pos (suc k) *ℤ moment_of ws k) ≤ 2 ^ 62
 left_small ws k h l b =
     let m = moment_size (length ws) (weight_in ws) k h l in
     let e : nat_abs (pos (suc k) *ℤ moment_of ws k) ≡ suc k * nat_abs (moment_of ws k) = ap nat_abs (abs_mul (pos (suc k)) (moment_of ws k)) in
@@ -213,7 +213,7 @@ degree_low : (y : Bool) (d : ℕ) → d ≤ 9 → degree_told y d ≤ 11
 degree_low y d h = cond_both (y && eqb (d % 2) 0) (suc d) d (λ n. n ≤ 11) (λ _. omega arith) (λ _. omega arith)
 
 -- a list that passes every check promises what a rule does
-pub accepted_sound : (ws : List ℤ) (D d : ℕ) → 2 ≤ length ws → length ws ≤ 17 → 1 ≤ D → D ≤ 1048576 → d ≤ 9 → absolute_sum_lem ws ≤ 1048576 → first_failing (suc d) (integrates ws D) ≡ None → Sound (accepted ws D d)
+pub accepted_sound : (ws : List ℤ) (D d : ℕ) → 2 ≤ length ws → length ws ≤ 17 → 1 ≤ D → D ≤ 1048576 → d ≤ 9 → absolute_sum ws ≤ 1048576 → first_failing (suc d) (integrates ws D) ≡ None → Sound (accepted ws D d)
 accepted_sound ws D d least few one limit low small exact = record {
   span = record { least = omega arith; most = omega arith; stations = refl };
   denominator = record { least = one; most = omega arith };
@@ -226,7 +226,7 @@ accepted_sound ws D d least few one limit low small exact = record {
   symmetry = record { mirrored = mirrored_list ws least; odd = degree_odd (reads_same ws) d };
 }
 
-pub accepted_at : (ws : List ℤ) (D d n : ℕ) (y : Bool) (c : ℕ) → Sound (accepted ws D d) → y ≡ reads_same ws → n ≡ degree_told y d → c ≡ absolute_sum_lem ws → Sound (telling (last_station ws) D n y c (weight_in ws))
+pub accepted_at : (ws : List ℤ) (D d n : ℕ) (y : Bool) (c : ℕ) → Sound (accepted ws D d) → y ≡ reads_same ws → n ≡ degree_told y d → c ≡ absolute_sum ws → Sound (telling (last_station ws) D n y c (weight_in ws))
 accepted_at ws D d n y c sound p q r = rw (r, q, p) sound
 
 -- the trapezoid's weights over a denominator with which the powers 0 and 1 are integrated exactly

@@ -36,8 +36,8 @@ every_true n p =
 abbrev weight_at : Row → ℕ → ℤ
 weight_at r s = slice_index_or r.weights s (pos 0)
 
-abbrev absolute_sum_lem : Row → ℤ
-absolute_sum_lem r = sum (suc r.span) (λ s. abs (weight_at r s))
+abbrev absolute_sum : Row → ℤ
+absolute_sum r = sum (suc r.span) (λ s. abs (weight_at r s))
 
 abbrev none : Row
 none = record { span = 0; denominator = 0; degree = 0; symmetric = false; ceiling = 0; weights = [] }
@@ -51,7 +51,7 @@ weights_pass r =
     (length r.weights == 9) && every 9 (λ s. nat_le s r.span || eqZ (weight_at r s) (pos 0))
 
 ceiling_passes : Row → Bool
-ceiling_passes r = eqZ (absolute_sum_lem r) (pos r.ceiling) && nat_le r.ceiling (2 ^ 40)
+ceiling_passes r = eqZ (absolute_sum r) (pos r.ceiling) && nat_le r.ceiling (2 ^ 40)
 
 -- both sides of moment k: (k+1) · Σ W(s)·sᵏ and D · Lᵏ⁺¹
 abbrev moment_left : Row → ℕ → ℤ
@@ -127,11 +127,11 @@ parts r e =
     let m = and_parts (moments_pass r) _ c.1 in
     (p.0, q.0, c.0, m.0, m.1)
 
-ceiling_of_row : (r : Row) → ceiling_passes r ≡ true → (absolute_sum_lem r ≡ pos r.ceiling) × (r.ceiling ≤ 2 ^ 40)
+ceiling_of_row : (r : Row) → ceiling_passes r ≡ true → (absolute_sum r ≡ pos r.ceiling) × (r.ceiling ≤ 2 ^ 40)
 unfolding ceiling_passes
 ceiling_of_row r e =
-    let c = and_parts (eqZ (absolute_sum_lem r) (pos r.ceiling)) _ e in
-    (eqZ_true (absolute_sum_lem r) (pos r.ceiling) c.0, leb-true _ _ c.1)
+    let c = and_parts (eqZ (absolute_sum r) (pos r.ceiling)) _ e in
+    (eqZ_true (absolute_sum r) (pos r.ceiling) c.0, leb-true _ _ c.1)
 
 -- a row that passes keeps the promises of a rule
 row_sound : (r : Row) → passes r ≡ true → Sound (meaning_of_row r)
@@ -139,7 +139,7 @@ row_sound r e =
     let p = parts r e in
     let n = sound_sizes r p.0 in
     let c = ceiling_of_row r p.2 in
-    let is : unsigned_abs (absolute_sum_lem r) ≡ r.ceiling = ap unsigned_abs c.0 in
+    let is : unsigned_abs (absolute_sum r) ≡ r.ceiling = ap unsigned_abs c.0 in
     record {
       span = record { least = n.0; most = omega arith; stations = refl };
       denominator = record { least = n.2; most = n.3 };
@@ -152,5 +152,5 @@ row_sound r e =
 pub built_in_sound : (b : BuiltIn) → Sound (meaning_of_row (row_of b))
 built_in_sound b = row_sound (row_of b) (row_passes b)
 
-pub built_in_ceiling : (b : BuiltIn) → (row_of b).ceiling ≡ unsigned_abs (absolute_sum_lem (row_of b))
+pub built_in_ceiling : (b : BuiltIn) → (row_of b).ceiling ≡ unsigned_abs (absolute_sum (row_of b))
 built_in_ceiling b = sym (ap unsigned_abs (ceiling_of_row (row_of b) (parts (row_of b) (row_passes b)).2).0)

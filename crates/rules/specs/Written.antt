@@ -40,8 +40,8 @@ abbrev pub last_station : List ℤ → ℕ
 last_station ws = length ws - 1
 
 -- the sum of the absolute weights
-abbrev pub absolute_sum_lem : List ℤ → ℕ
-absolute_sum_lem ws = unsigned_abs (sum (length ws) (λ s. abs (weight_in ws s)))
+abbrev pub absolute_sum : List ℤ → ℕ
+absolute_sum ws = unsigned_abs (sum (length ws) (λ s. abs (weight_in ws s)))
 
 -- Σ W(s)·sᵏ
 abbrev pub moment_of : List ℤ → ℕ → ℤ
@@ -62,7 +62,7 @@ degree_told symmetric d = cond (symmetric && d % 2 == 0) (suc d) d
 -- what an accepted list tells
 abbrev pub accepted : List ℤ → ℕ → ℕ → Meaning
 accepted ws D d =
-    telling (last_station ws) D (degree_told (reads_same ws) d) (reads_same ws) (absolute_sum_lem ws) (weight_in ws)
+    telling (last_station ws) D (degree_told (reads_same ws) d) (reads_same ws) (absolute_sum ws) (weight_in ws)
 
 -- a refusal of a list of weights, from RULE
 abbrev pub fault_at : Cause → ℕ → Fault
@@ -82,7 +82,7 @@ loading ws D d =
     cond (nat_lt (length ws) 2 || nat_lt 17 (length ws)) (refused ListLength 0)
     (cond (D == 0 || nat_lt 1048576 D) (refused DenominatorRange 0)
     (cond (nat_lt 9 d) (refused WrittenDegree 0)
-    (cond (nat_lt 1048576 (absolute_sum_lem ws)) (refused WeightSum 0)
+    (cond (nat_lt 1048576 (absolute_sum ws)) (refused WeightSum 0)
     (unless_failing (first_failing (suc d) (integrates ws D)) (accepted ws D d)))))
 
 -- a result with a function of what it holds

@@ -15,7 +15,7 @@ use Rattle.runs.specs.declared.verdict.Verdict.{Verdict}
 use Rattle.runs.specs.declared.verdict.Verdict.TheVariants.{Apart, Meet}
 use Rattle.runs.specs.Holding.{readings_held}
 use Rattle.runs.specs.Ledger.{Ledger, estimate_of, result_of}
-use Rattle.runs.specs.Totals.{lowest_empty, absolute_sum_lem, fault_at, empty_station, given}
+use Rattle.runs.specs.Totals.{lowest_empty, absolute_sum, fault_at, empty_station, given}
 use Rattle.runs.specs.Verdicts.{shared, bands_apart, Bounded, first_fault, verdict_refusal, verdict_on, verdict_of, Separates}
 use Rattle.runs.proofs.Bands.{apart_none, meet_some}
 use Rattle.runs.proofs.Sizes.{product_bound, size_bound, sum_bound}
@@ -36,7 +36,7 @@ held_sound h = record {
 pub estimate_bounded : (m : Meaning) (r : Readings) → Sound m → SoundReadings r → Bounded (estimate_of m r)
 estimate_bounded m r h k = record {
   value = sum_bound m r h k m.weighting.stations (omega arith);
-  radius = product_bound (2 ^ 20) (2 ^ 40) (pos r.tolerance) (absolute_sum_lem m.weighting) k.tolerance (size_bound m h m.weighting.stations (omega arith));
+  radius = product_bound (2 ^ 20) (2 ^ 40) (pos r.tolerance) (absolute_sum m.weighting) k.tolerance (size_bound m h m.weighting.stations (omega arith));
   least = h.denominator.least;
   most = h.denominator.most;
 }
@@ -44,7 +44,7 @@ estimate_bounded m r h k = record {
 -- no radius is negative
 radius_positive : (m : Meaning) (r : Readings) → pos 0 ≤ℤ (estimate_of m r).radius
 radius_positive m r =
-    ≤ℤ_of_eq (ap pos (omega arith)) ≤∙ ≤ℤ_scale r.tolerance (positive (absolute_sum_lem m.weighting) (abs_sum m.weighting.stations (λ s. abs (m.weighting.weight s))))
+    ≤ℤ_of_eq (ap pos (omega arith)) ≤∙ ≤ℤ_scale r.tolerance (positive (absolute_sum m.weighting) (abs_sum m.weighting.stations (λ s. abs (m.weighting.weight s))))
   where
     positive : (s : ℤ) → abs s ≤ℤ s → pos 0 ≤ℤ s
     positive s l = omega (arith, ints)

@@ -8,7 +8,7 @@ use Rattle.rules.specs.declared.fault.Fault.{Fault}
 use Rattle.rules.specs.declared.fault.Origin.TheVariants.{Run}
 use Rattle.sources.specs.Searches.{first_where}
 use Rattle.runs.specs.declared.band.Band.{Band}
-use Rattle.runs.specs.Totals.{lacks, value_of, weighted_sum, absolute_sum_lem, lowest_empty, empty_station, given, sum_of, total_of}
+use Rattle.runs.specs.Totals.{lacks, value_of, weighted_sum, absolute_sum, lowest_empty, empty_station, given, sum_of, total_of}
 use Rattle.runs.proofs.Sizes.{size_bound, sum_bound}
 
 -- the term of a station, as an answer
@@ -65,6 +65,6 @@ pub total_there : (m : Meaning) (r : Readings) (n : ℕ) (total size : ℤ) (den
 total_there m r n total size denominator tolerance en none et es ed ee =
     let W = m.weighting.weight in
     let value : total ≡ weighted_sum m.weighting r = et ∙ ap (λ k. sum k (λ s. W s *ℤ value_of (r.reading s))) en in
-    let radius : pos tolerance *ℤ size ≡ pos r.tolerance *ℤ absolute_sum_lem m.weighting = ap₂ (λ k t. pos k *ℤ t) ee (es ∙ ap (λ k. sum k (λ s. abs (W s))) en) in
+    let radius : pos tolerance *ℤ size ≡ pos r.tolerance *ℤ absolute_sum m.weighting = ap₂ (λ k t. pos k *ℤ t) ee (es ∙ ap (λ k. sum k (λ s. abs (W s))) en) in
     let missing : lowest_empty m.weighting r ≡ None = ap (λ k. first_where k (λ s. lacks (W s) (r.reading s))) (sym en) ∙ none in
     (λ i. Ok (record { value = (value i, ed i); radius = radius i })) ∙ sym (ap (λ (o : Option ℕ). given (empty_station Run o) (sum_of m.weighting r)) missing)

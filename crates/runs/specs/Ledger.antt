@@ -4,7 +4,7 @@ use Rattle.rules.specs.Meaning.{Meaning}
 use Rattle.rules.specs.declared.fault.Cause.TheVariants.{ReadingRange, ToleranceRange, StationBeyondSpan, Published, NothingToStrike}
 use Rattle.rules.specs.declared.fault.Fault.{Fault}
 use Rattle.rules.specs.declared.fault.Origin.TheVariants.{Run}
-use Rattle.sources.specs.Readings.{Readings, within_range}
+use Rattle.sources.specs.Readings.{Readings, is_in_range}
 use Rattle.runs.specs.declared.call.Reply.{Reply}
 use Rattle.runs.specs.declared.call.Reply.TheVariants.{Done, Result as Told, Refused}
 use Rattle.runs.specs.declared.estimate.Estimate.{Estimate}
@@ -42,7 +42,7 @@ changes asking = false
 abbrev pub own_refusal : Meaning → Readings → Entry → Option Fault
 own_refusal m r (entering s v) =
     cond (nat_lt m.span s) (Some (fault_at StationBeyondSpan s))
-    (cond (not (within_range v)) (Some (fault_at ReadingRange s))
+    (cond (not (is_in_range v)) (Some (fault_at ReadingRange s))
     None)
 own_refusal m r (striking s) =
     cond (nat_lt m.span s) (Some (fault_at StationBeyondSpan s))

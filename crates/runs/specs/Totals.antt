@@ -30,14 +30,14 @@ abbrev pub weighted_sum : Weighting → Readings → ℤ
 weighted_sum w r = sum w.stations (λ s. w.weight s *ℤ value_of (r.reading s))
 
 -- Σ |W(s)|
-abbrev pub absolute_sum_lem : Weighting → ℤ
-absolute_sum_lem w = sum w.stations (λ s. abs (w.weight s))
+abbrev pub absolute_sum : Weighting → ℤ
+absolute_sum w = sum w.stations (λ s. abs (w.weight s))
 
 -- the sum over the denominator; each reading may be off by the tolerance, so the sum may be off by the tolerance times Σ |W(s)|
 abbrev pub sum_of : Weighting → Readings → Band
 sum_of w r = record {
   value = (weighted_sum w r, w.denominator);
-  radius = pos r.tolerance *ℤ absolute_sum_lem w;
+  radius = pos r.tolerance *ℤ absolute_sum w;
 }
 
 -- the fault of a run

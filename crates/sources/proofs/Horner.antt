@@ -8,7 +8,7 @@ use Rattle.std.proofs.lemmas.Int.{to_z-of_z, to_z_pos}
 use Rattle.algebra.specs.Sums.{sum, ◌^ℤ◌}
 use Rattle.algebra.proofs.Integers.{*ℤ_distl}
 use Rattle.sources.specs.Polynomials.{polynomial_value, polynomial_at}
-use Rattle.sources.specs.Readings.{within_range}
+use Rattle.sources.specs.Readings.{is_in_range}
 
 mul_swap : (a x y : ℤ) → a *ℤ (x *ℤ y) ≡ x *ℤ (a *ℤ y)
 mul_swap a x y = omega (
@@ -119,7 +119,7 @@ pub steady_all : (a : ℕ → ℤ) (s : ℕ) (v : ℤ) → Steady a s 0 v → v 
 steady_all a s v st = st.is ∙ polynomial_is a s
 
 -- the scheme may be broken off
-pub steady_left : (a : ℕ → ℤ) (s k : ℕ) (v w : ℤ) → Bounded a → Steady a s k v → 0 < k → k ≤ 12 → w ≡ (v *ℤ pos s) +ℤ a (k - 1) → (ltb 1 s && ltb 2097152 (nat_abs w)) ≡ true → within_range (polynomial_value a s) ≡ false
+pub steady_left : (a : ℕ → ℤ) (s k : ℕ) (v w : ℤ) → Bounded a → Steady a s k v → 0 < k → k ≤ 12 → w ≡ (v *ℤ pos s) +ℤ a (k - 1) → (ltb 1 s && ltb 2097152 (nat_abs w)) ≡ true → is_in_range (polynomial_value a s) ≡ false
 steady_left a s k v w small st h most e leaves =
     let p = and_parts (ltb 1 s) (ltb 2097152 (nat_abs w)) leaves in
     let large : 2097152 < nat_abs (horner a (pos s) (k - 1) (12 - (k - 1))) = subst (λ (t : ℤ). 2097152 < nat_abs t) (e ∙ next_is a s k v h most st.is) (ltb-true 2097152 (nat_abs w) p.1) in
@@ -164,13 +164,13 @@ module _ (v a : ℤ) (s : ℕ) (hv : nat_abs v ≤ 12582912) (hs : s ≤ 1024) (
   step_exact = ap passed sum_is_exact ∙ passed_is ((v *ℤ pos s) +ℤ a) sum_size
 
 -- ---- the reading at a station
-pub read_none : (a : ℕ → ℤ) (s : ℕ) → within_range (polynomial_value a s) ≡ false → polynomial_at a s ≡ None
-read_none a s e = cond-false (leb s 1024 && within_range (polynomial_value a s)) (Some (polynomial_value a s)) None (and_right (leb s 1024) (within_range (polynomial_value a s)) e)
+pub read_none : (a : ℕ → ℤ) (s : ℕ) → is_in_range (polynomial_value a s) ≡ false → polynomial_at a s ≡ None
+read_none a s e = cond-false (leb s 1024 && is_in_range (polynomial_value a s)) (Some (polynomial_value a s)) None (and_right (leb s 1024) (is_in_range (polynomial_value a s)) e)
 
-pub read_some : (a : ℕ → ℤ) (s : ℕ) → s ≤ 1024 → within_range (polynomial_value a s) ≡ true → polynomial_at a s ≡ Some (polynomial_value a s)
+pub read_some : (a : ℕ → ℤ) (s : ℕ) → s ≤ 1024 → is_in_range (polynomial_value a s) ≡ true → polynomial_at a s ≡ Some (polynomial_value a s)
 read_some a s h e =
-    cond-true (leb s 1024 && within_range (polynomial_value a s)) (Some (polynomial_value a s)) None
-    (and_from (leb s 1024) (within_range (polynomial_value a s)) (le-leb s 1024 h) e)
+    cond-true (leb s 1024 && is_in_range (polynomial_value a s)) (Some (polynomial_value a s)) None
+    (and_from (leb s 1024) (is_in_range (polynomial_value a s)) (le-leb s 1024 h) e)
 
 -- the step as the code takes it, from the bits of its numbers
 pub step_is : (v v' a a' w : ℤ) (s : ℕ) → w ≡ (v' *ℤ pos s) +ℤ a' → v' ≡ v → a' ≡ a → w ≡ (v *ℤ pos s) +ℤ a

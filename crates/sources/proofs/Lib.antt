@@ -1,6 +1,6 @@
 pub mod Horner
 pub mod Padding
-pub mod Row-facts
+pub mod RowFacts
 pub mod Searches
 pub mod Steps
 pub mod Writing

@@ -3,7 +3,7 @@ use Rattle.std.specs.Prelude.{ℕ, cond, ◌&&◌, List, length, ℤ, pos, ◌*�
 use Rattle.algebra.specs.Sums.{sum, ◌^ℤ◌}
 use Rattle.rules.specs.declared.fault.Fault.{Fault}
 use Rattle.rules.specs.declared.fault.Cause.TheVariants.{CoefficientCount, ReadingRange}
-use Rattle.sources.specs.Readings.{Readings, within_range}
+use Rattle.sources.specs.Readings.{Readings, is_in_range}
 use Rattle.sources.specs.Refusals.{out_of_range, refused, refused_at}
 use Rattle.sources.specs.Searches.{value_of, first_where}
 use Rattle.sources.specs.declared.polynomial.Polynomial.{Polynomial}
@@ -22,7 +22,7 @@ polynomial_value a s = sum 12 (λ i. a i *ℤ (pos s ^ℤ i))
 
 -- the value is the reading where it is one; none above station 1,024
 abbrev pub polynomial_at : (ℕ → ℤ) → ℕ → Option ℤ
-polynomial_at a s = cond (nat_le s 1024 && within_range (polynomial_value a s)) (Some (polynomial_value a s)) None
+polynomial_at a s = cond (nat_le s 1024 && is_in_range (polynomial_value a s)) (Some (polynomial_value a s)) None
 
 abbrev pub read_off : Polynomial → Readings
 read_off p = record { reading = polynomial_at (coefficient_of p); tolerance = 0 }

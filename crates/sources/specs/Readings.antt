@@ -2,8 +2,8 @@
 use Rattle.std.specs.Prelude.{◌≡◌, ℕ, ◌<◌, ◌≤◌, Bool, ℤ, Some, None, Option, nat_le, unsigned_abs}
 
 -- a reading is -1,048,576 to 1,048,576
-abbrev pub within_range : ℤ → Bool
-within_range v = nat_le (unsigned_abs v) 1048576
+abbrev pub is_in_range : ℤ → Bool
+is_in_range v = nat_le (unsigned_abs v) 1048576
 
 abbrev pub InRange : ℤ → Type 0
 InRange v = unsigned_abs v ≤ 1048576

@@ -1,6 +1,6 @@
 // Faults, lines, results and verdicts as records.
 ghost use Rattle.std.specs.Prelude.{◌≡◌};
-ghost use Rattle.battenlime.specs.Records.{estimate_shown, number_of_layer, line_shown, refusal_shown, verdict_shown};
+ghost use Rattle.battenlime.specs.Records.{estimate_shown, layer_number, line_shown, refusal_shown, verdict_shown};
 
 use super::{EstimateRecord, LineRecord, RefusalRecord, VerdictRecord};
 use report::Written;
@@ -9,7 +9,7 @@ use runs::{Estimate, Verdict};
 
 // The layers of the library, in the order of the numbers that stand for them.
 fn layer_number(layer: Origin) -> u32
-    ensures { result ≡ number_of_layer layer }
+    ensures { result ≡ layer_number layer }
 {
     match layer {
         Origin::Rule => 1,

@@ -1,11 +1,11 @@
 // The checks of a written rule: the sum of the absolute weights, the powers that are integrated exactly, and symmetry.
 ghost use Rattle.std.specs.Prelude.{◌≡◌, suc, ◌≤◌, length, pos};
 ghost use Rattle.algebra.specs.Sums.{◌^ℤ◌};
-ghost use Rattle.rules.specs.Written.{absolute_sum_lem, first_failing, integrates, moment_of, reads_same};
+ghost use Rattle.rules.specs.Written.{absolute_sum, first_failing, integrates, moment_of, reads_same};
 
 // The sum of the absolute weights; a list of 2^64 of the largest would still fit.
 pub(super) fn absolute_sum(weights: &[i64]) -> u128
-    ensures { result ≡ absolute_sum_lem weights.now }
+    ensures { result ≡ absolute_sum weights.now }
 {
     let mut total = 0;
     for weight in weights {
@@ -26,7 +26,7 @@ fn station_power(station: usize, exponent: usize) -> i64
 fn moment(weights: &[i64], power: usize) -> i64
     requires few { length weights.now ≤ 17 }
     requires low { power ≤ 9 }
-    requires small { absolute_sum_lem weights.now ≤ 1048576 }
+    requires small { absolute_sum weights.now ≤ 1048576 }
     ensures { result ≡ moment_of weights.now power }
 {
     let mut total = 0;
@@ -42,7 +42,7 @@ fn is_exact(weights: &[i64], denominator: u64, power: usize) -> bool
     requires few { length weights.now ≤ 17 }
     requires limit { denominator ≤ 1048576 }
     requires low { power ≤ 9 }
-    requires small { absolute_sum_lem weights.now ≤ 1048576 }
+    requires small { absolute_sum weights.now ≤ 1048576 }
     ensures { result ≡ integrates weights.now denominator power }
 {
     let span = weights.len() - 1;
@@ -56,7 +56,7 @@ pub(super) fn first_inexact(weights: &[i64], denominator: u64, degree: usize) ->
     requires few { length weights.now ≤ 17 }
     requires limit { denominator ≤ 1048576 }
     requires low { degree ≤ 9 }
-    requires small { absolute_sum_lem weights.now ≤ 1048576 }
+    requires small { absolute_sum weights.now ≤ 1048576 }
     ensures { result ≡ first_failing (suc degree) (integrates weights.now denominator) }
 {
     for power in 0..degree + 1 {

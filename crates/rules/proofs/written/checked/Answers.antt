@@ -1,5 +1,5 @@
 use Rattle.std.proofs.Common.{◌≡◌, suc, ◌≤◌, length, None, sym, arith}
-use Rattle.rules.specs.Written.{absolute_sum_lem, first_failing, integrates}
+use Rattle.rules.specs.Written.{absolute_sum, first_failing, integrates}
 use Rattle.rules.proofs.Loading.{accepted_sound, accepted_at}
 use Rattle.rules.proofs.written.checked.Goals as goal
 
@@ -10,7 +10,7 @@ tabled-requires c =
     let one : 1 ≤ c.args.denominator = omega arith in
     let limit : c.args.denominator ≤ 1048576 = omega arith in
     let low : c.args.degree ≤ 9 = omega arith in
-    let small : absolute_sum_lem c.args.weights.now ≤ 1048576 = omega arith in
+    let small : absolute_sum c.args.weights.now ≤ 1048576 = omega arith in
     let exact : first_failing (suc c.args.degree) (integrates c.args.weights.now c.args.denominator) ≡ None = sym c.in_default.ensures in
     record {
       few = few;

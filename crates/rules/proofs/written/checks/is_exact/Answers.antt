@@ -1,7 +1,7 @@
 use Rattle.std.proofs.Common.{◌≡◌, ℕ, suc, ◌+◌, ◌≤◌, List, length, ℤ, pos, ◌*ℤ◌, sym, ap, ◌∙◌, subst, ap₂, arith, w64, SFits, to_z, of_z, rules}
 use Rattle.std.proofs.lemmas.Int.{to_z-of_z, to_z_pos}
 use Rattle.algebra.specs.Sums.{◌^ℤ◌}
-use Rattle.rules.specs.Written.{equal, absolute_sum_lem, moment_of, last_station}
+use Rattle.rules.specs.Written.{equal, absolute_sum, moment_of, last_station}
 use Rattle.rules.proofs.Loading.{small_fits, left_small, right_small, equal_bits}
 use Rattle.rules.proofs.written.checks.is_exact.Goals as goal
 
@@ -10,7 +10,7 @@ left_is ws k m h fits e =
     let next : k + 1 ≡ suc k = omega arith in
     ap₂ ◌*ℤ◌ (to_z_pos w64 (k + 1) (omega arith) ∙ ap pos next) (to_z-of_z w64 m fits ∙ e)
 
-left_fits : (ws : List ℤ) (k : ℕ) (m : ℤ) → length ws ≤ 17 → k ≤ 9 → absolute_sum_lem ws ≤ 1048576 → SFits w64 m → m ≡ moment_of ws k → SFits w64 (to_z w64 (k + 1) *ℤ to_z w64 (of_z w64 m))
+left_fits : (ws : List ℤ) (k : ℕ) (m : ℤ) → length ws ≤ 17 → k ≤ 9 → absolute_sum ws ≤ 1048576 → SFits w64 m → m ≡ moment_of ws k → SFits w64 (to_z w64 (k + 1) *ℤ to_z w64 (of_z w64 m))
 left_fits ws k m n h b fits e = subst (SFits w64) (sym (left_is ws k m h fits e)) (small_fits _ (left_small ws k n h b))
 
 pub overflow_mul-weighted : goal.overflow_mul-weighted

@@ -1,7 +1,7 @@
 use Rattle.std.proofs.Common.{◌≡◌, ℕ, ◌-◌, ◌&&◌, ltb, ℤ, nat_abs, Some, sym, ap, ◌∙◌, subst, arith, w64, SFits, rules}
 use Rattle.std.proofs.lemmas.Int.{to_z-of_z}
 use Rattle.sources.specs.Polynomials.{coefficient_of}
-use Rattle.sources.specs.Readings.{within_range}
+use Rattle.sources.specs.Readings.{is_in_range}
 use Rattle.sources.proofs.Horner.{Steady, steady_more, steady_left, steady_all, step_is, read_none, read_some}
 use Rattle.sources.proofs.polynomial.Polynomial.value.Goals as goal
 
@@ -39,7 +39,7 @@ returns-then-is_in_range c =
     let steady = subst (λ (t : ℤ). Steady a s c.loop-power.power t) c.loop-power.value-is c.loop-power.invariant in
     let done : c.loop-power.power ≡ 0 = omega arith in
     let is = c.loop-power.value-is ∙ steady_all a s c.loop-power.value (subst (λ (k : ℕ). Steady a s k c.loop-power.value) done steady) in
-    ap Some is ∙ sym (read_some a s c.requires (ap within_range (sym is) ∙ sym c.if-is_in_range.ensures))
+    ap Some is ∙ sym (read_some a s c.requires (ap is_in_range (sym is) ∙ sym c.if-is_in_range.ensures))
 
 pub returns-else-is_in_range : goal.returns-else-is_in_range
 returns-else-is_in_range c =
@@ -48,4 +48,4 @@ returns-else-is_in_range c =
     let steady = subst (λ (t : ℤ). Steady a s c.loop-power.power t) c.loop-power.value-is c.loop-power.invariant in
     let done : c.loop-power.power ≡ 0 = omega arith in
     let is = c.loop-power.value-is ∙ steady_all a s c.loop-power.value (subst (λ (k : ℕ). Steady a s k c.loop-power.value) done steady) in
-    sym (read_none a s (ap within_range (sym is) ∙ sym c.if-is_in_range.ensures))
+    sym (read_none a s (ap is_in_range (sym is) ∙ sym c.if-is_in_range.ensures))
