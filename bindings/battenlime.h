@@ -1,7 +1,7 @@
 /* Battenlime from C: quadrature rules with whole-number weights, and the
  * session, the weights, the replies and the verdict that they give.
  *
- * Link with libbattenlime.a (`rt staticlib battenlime` makes it).
+ * Link with libbattenlime.a (`bash bindings/library` makes it).
  *
  * For every call:
  * - Any numbers and any bytes may be passed. What cannot be used is refused by
