@@ -13,7 +13,7 @@
  *   buffer that is too short stays as it was altogether (refusal 23, whose place
  *   is the number of elements needed).
  * - Nothing is allocated and nothing is kept between calls, so calls from
- *   several threads do not disturb each other. A call needs up to 200 KB of stack.
+ *   several threads do not disturb each other. A call needs up to 300 KB of stack.
  */
 #ifndef BATTENLIME_H
 #define BATTENLIME_H

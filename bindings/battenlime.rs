@@ -1,7 +1,7 @@
 //! Battenlime from Rust: safe calls of the static library `libbattenlime.a`.
 //!
 //! Any numbers and bytes may be passed; what cannot be used is refused by number, layer and place.
-//! Nothing is allocated and nothing is kept between calls. A call needs up to 200 KB of stack.
+//! Nothing is allocated and nothing is kept between calls. A call needs up to 300 KB of stack.
 
 /// A refusal; all three are 0 where nothing was refused.
 #[repr(C)]
