@@ -1,10 +1,9 @@
 -- Calls and replies as records, and what a list of calls leaves in the buffer.
-use Rattle.std.specs.Prelude.{ℕ, cond, List, ◌++◌, map, length, drop, pos, Some, None, Ok, Err, Result, ◌==◌, nat_le}
+use Rattle.std.specs.Prelude.{ℕ, cond, List, ◌++◌, map, length, drop, pos, Some, None, Ok, Err, Option, Result, ◌==◌, nat_le}
 use Rattle.rules.specs.Faults.{carried}
 use Rattle.rules.specs.declared.fault.Fault.{Fault}
 use Rattle.runs.specs.Ledger.{Entry, asking, declaring, entering, publishing, striking}
-use Rattle.runs.specs.declared.call.Reply.{Reply}
-use Rattle.runs.specs.declared.call.Reply.TheVariants.{Done, Result as Told, Refused}
+use Rattle.runs.specs.declared.estimate.Estimate.{Estimate}
 use Rattle.claims.specs.Histories.{replies_from}
 use Rattle.claims.specs.Replays.{Account}
 use Rattle.pairs.specs.Accounts.{account_of_case}
@@ -22,16 +21,16 @@ entry_meant c =
     (cond (c.kind == 3) (declaring c.tolerance) (cond (c.kind == 4) publishing asking)))
 
 -- a reply: zeros for a change that is made, the result, or zeros with the refusal
-abbrev pub reply_shown : Reply → EstimateRecord
-reply_shown Done = record {
+abbrev pub reply_shown : Result (Option Estimate) Fault → EstimateRecord
+reply_shown (Ok None) = record {
   numerator = pos 0;
   denominator = 0;
   radius = pos 0;
   degree = 0;
   refusal = refusal_shown None;
 }
-reply_shown (Told e) = estimate_shown (Ok e)
-reply_shown (Refused f) = estimate_shown (Err f)
+reply_shown (Ok (Some e)) = estimate_shown (Ok e)
+reply_shown (Err f) = estimate_shown (Err f)
 
 -- the rule that is ordered and the ledger of a new run over it with the survey loaded, where there is a place for each reply
 abbrev pub started : (order survey : List ℕ) → (calls places : ℕ) → Result Account Fault

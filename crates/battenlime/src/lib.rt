@@ -1,4 +1,5 @@
 // The library for callers in C and Rust: sessions, rules, runs and verdicts on numbers, bytes and buffers.
+// Each call takes order and survey as two slices, since C has no `session::Input`.
 #![tactic(auto)]
 
 mod records;

@@ -4,34 +4,23 @@ mod performing;
 ghost use Rattle.std.specs.Prelude.{◌≡◌, length};
 ghost use Rattle.battenlime.specs.Replays.{refusal_told, replies_left, started};
 
-use crate::records::{CallRecord, EstimateRecord, RefusalRecord, refusal_record};
-use layers::table_of;
+use crate::records::{CallRecord, EstimateRecord, RefusalRecord};
 use performing::perform_all;
 use rules::{Cause, Fault, Origin};
 use runs::Run;
-use session::Order;
+use session::{Input, Order};
 use sources::Survey;
 
 // Performs the calls on a new run over the rule that is ordered, with the survey loaded.
-fn replayed(
-    order: &[u8],
-    survey: &[u8],
-    calls: &[CallRecord],
-    replies: &mut [EstimateRecord],
-) -> Result<(), Fault>
-    ensures refusal { refusal_told result ≡ refusal_told (started order.now survey.now (length calls.now) (length replies.old)) }
-    ensures replies { replies.new ≡ replies_left (started order.now survey.now (length calls.now) (length replies.old)) calls.now replies.old }
+// The first steps are those of `session::estimate`, which hands out no run: in a `Result` it would be moved once more.
+fn replayed(input: Input, calls: &[CallRecord], replies: &mut [EstimateRecord]) -> Result<(), Fault>
+    ensures refusal { refusal_told result ≡ refusal_told (started input.entry.order.now input.entry.survey.now (length calls.now) (length replies.old)) }
+    ensures replies { replies.new ≡ replies_left (started input.entry.order.now input.entry.survey.now (length calls.now) (length replies.old)) calls.now replies.old }
 {
-    let order = Order::read(order)?;
-    let mut pile = table_of(order.base());
-    order.lay_on(&mut pile)?;
-    let readings = Survey::read(survey)?;
+    let pile = Order::read(input.order)?.pile()?;
+    let readings = Survey::read(input.survey)?;
     if replies.len() < calls.len() {
-        return Err(Fault {
-            cause: Cause::BufferShort,
-            layer: Origin::Output,
-            place: calls.len(),
-        });
+        return Err(Origin::Output.fault(Cause::BufferShort, calls.len()));
     }
     let mut run = Run::new(pile);
     run.load(&readings)?;
@@ -50,8 +39,7 @@ pub fn battenlime_replay(
     ensures refusal { result ≡ refusal_told (started order.now survey.now (length calls.now) (length replies.old)) }
     ensures replies { replies.new ≡ replies_left (started order.now survey.now (length calls.now) (length replies.old)) calls.now replies.old }
 {
-    match replayed(order, survey, calls, replies) {
-        Ok(()) => refusal_record(None),
-        Err(fault) => refusal_record(Some(fault)),
-    }
+    replayed(Input { order, survey }, calls, replies)
+        .err()
+        .into()
 }

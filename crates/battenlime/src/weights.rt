@@ -4,22 +4,24 @@ ghost use Rattle.std.specs.Result.{result_map_both};
 ghost use Rattle.rules.specs.Tables.{told as told_by};
 ghost use Rattle.battenlime.specs.Weights.{fitted, ordered, rule_shown, rule_told, weights_left};
 
-use crate::records::{RuleRecord, refusal_record};
+use crate::records::RuleRecord;
 use layers::table_of;
 use rules::{Cause, Fault, Origin, Table};
 use session::Order;
 
 // What a table tells but its weights.
-fn rule_record(pile: &Table) -> RuleRecord
-    ensures { result ≡ rule_told (told_by pile.now) }
-{
-    RuleRecord {
-        span: pile.span,
-        denominator: pile.denominator,
-        degree: pile.degree,
-        ceiling: pile.ceiling,
-        symmetric: if pile.symmetric { 1 } else { 0 },
-        refusal: refusal_record(None),
+impl From<&Table> for RuleRecord {
+    ghost from_gives = { λ pile shown. shown ≡ rule_told (told_by pile.now) };
+
+    fn from(pile: &Table) -> RuleRecord {
+        RuleRecord {
+            span: pile.span,
+            denominator: pile.denominator,
+            degree: pile.degree,
+            ceiling: pile.ceiling,
+            symmetric: pile.symmetric as u32,
+            ..RuleRecord::default()
+        }
     }
 }
 
@@ -29,18 +31,15 @@ fn fill(order: &[u8], weights: &mut [i64]) -> Result<RuleRecord, Fault>
     ensures rule { result ≡ result_map_both rule_told (λ e. e) (fitted (ordered order.now) (length weights.old)) }
 {
     let order = Order::read(order)?;
+    // Laid where the table stands: tried `Order::pile`, with which the weights took up to a third longer and 33 KB more stack.
     let mut pile = table_of(order.base());
     order.lay_on(&mut pile)?;
     let stations = pile.span + 1;
     if weights.len() < stations {
-        return Err(Fault {
-            cause: Cause::BufferShort,
-            layer: Origin::Output,
-            place: stations,
-        });
+        return Err(Origin::Output.fault(Cause::BufferShort, stations));
     }
-    weights[0..stations].copy_from_slice(&pile.weights[0..stations]);
-    Ok(rule_record(&pile))
+    weights[..stations].copy_from_slice(&pile.weights[..stations]);
+    Ok(RuleRecord::from(&pile))
 }
 
 // The rule that an order asks for. Its weights, for the stations 0 to its span, stand at the front of the buffer; where there are too few places the buffer stays as it was.
@@ -48,15 +47,8 @@ pub fn battenlime_weights(order: &[u8], weights: &mut [i64]) -> RuleRecord
     ensures weights { weights.new ≡ weights_left (fitted (ordered order.now) (length weights.old)) weights.old }
     ensures rule { result ≡ rule_shown (fitted (ordered order.now) (length weights.old)) }
 {
-    match fill(order, weights) {
-        Ok(rule) => rule,
-        Err(fault) => RuleRecord {
-            span: 0,
-            denominator: 0,
-            degree: 0,
-            ceiling: 0,
-            symmetric: 0,
-            refusal: refusal_record(Some(fault)),
-        },
-    }
+    fill(order, weights).unwrap_or_else(|fault| RuleRecord {
+        refusal: Some(fault).into(),
+        ..RuleRecord::default()
+    })
 }

@@ -1,4 +1,5 @@
 // The static library for callers in C and Rust: each export is the call of the same name of the library.
+// The six functions stand here again, as a crate is built as a library or as a static library and not as both. `within` as in a session's report.
 #![tactic(auto)]
 
 ghost use Rattle.std.specs.Prelude.{◌≡◌, ◌≤◌, length, take, drop};

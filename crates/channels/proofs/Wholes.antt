@@ -4,6 +4,10 @@ use mathlib.Core.Bool.{beq}
 use lib.Ieee.{Float, nan, inf, fin, binary32, up, down, round, of_int, to_signed, eq}
 use lib.Ieee.Exact.{HasValue, round_exact}
 use borrow.Author.Tests.{lt-leb}
+use Rattle.std.proofs.lemmas.Bool.{and_right, or_right}
+use Rattle.std.proofs.Math.Bool.{and-true}
+use Rattle.std.specs.Bool.{then_some}
+use Rattle.sources.proofs.Horner.{then_some_is}
 use Rattle.sources.specs.Readings.{is_in_range}
 use Rattle.channels.specs.Floats.{with_sign, whole_reading}
 
@@ -38,14 +42,6 @@ same_sign : (a : Bool) (c : Bool) → (beq a a || c) ≡ true
 same_sign true c = refl
 same_sign false c = refl
 
-or_true : (a c : Bool) → c ≡ true → (a || c) ≡ true
-or_true true c e = refl
-or_true false c e = e
-
-and_true : (a c : Bool) → c ≡ true → (a && c) ≡ a
-and_true true c e = e
-and_true false c e = refl
-
 -- a float of the size q compared with one whose whole part is q
 equals : (y : Float) (t s : Bool) (m : ℕ) (e : ℤ) (q : ℕ) → q ≡ m * up e / down e → HasValue y t q 1 → (t ≡ s) ⊎ (q ≡ 0)
     → eq y (fin s m e) ≡ eqb (m * up e % down e) 0
@@ -58,12 +54,13 @@ equals (fin u n d) t s m e q is v agree =
     elim agree [
       | inl f ↦ subst (λ (b : Bool). (beq u b || eqb (n * up d * down e) 0) ≡ true) (v.0 ∙ f) (same_sign u (eqb (n * up d * down e) 0))
       | inr z ↦
-          or_true (beq u s) (eqb (n * up d * down e) 0)
+          or_right (beq u s) (eqb (n * up d * down e) 0)
           (eq-eqb (n * up d * down e) 0
           (ap (λ (x : ℕ). x * down e) (level ∙ ap (λ (x : ℕ). x * down d) z ∙ zero-mul (down d)) ∙ zero-mul (down e)))
     ]
     in
-    and_true (eqb (n * up d * down e) (m * up e * down d)) (beq u s || eqb (n * up d * down e) 0) sign
+    ap (λ (b : Bool). eqb (n * up d * down e) (m * up e * down d) && b) sign
+    ∙ and-true (eqb (n * up d * down e) (m * up e * down d))
     ∙ same_size (n * up d) (m * up e) (down e) (down d) (down_pos e) (down_pos d) (level ∙ ap (λ (x : ℕ). x * down d) is)
 
 -- the float of a whole number in the range has its size, and its sign unless it is 0
@@ -94,11 +91,7 @@ in_range_few true q h = le-leb _ _ (let is : nat_abs (with_sign true q) ≡ q = 
 in_range_few false q h = le-leb _ _ h
 
 both_tests : (a b c d : Bool) → b ≡ true → c ≡ true → d ≡ a → (a && b) ≡ (c && d)
-both_tests a b c d p q r = and_true a b p ∙ sym r ∙ ap (λ (x : Bool). x && d) (sym q)
-
-and_false : (a c : Bool) → c ≡ false → (a && c) ≡ false
-and_false true c e = e
-and_false false c e = refl
+both_tests a b c d p q r = ap (λ (x : Bool). a && x) p ∙ and-true a ∙ sym r ∙ ap (λ (x : Bool). x && d) (sym q)
 
 -- the test on the cut number w of the float x
 abbrev tested : ℤ → Float → Option ℤ
@@ -114,7 +107,7 @@ finite s m e true h =
     (both_tests _ _ _ _ h (in_range_few s q few) (equals (of_int binary32 (with_sign s q)) float.0 s m e q refl float.1 float.2)))
 finite s m e false h =
     let q = m * up e / down e in
-    ap (λ (b : Bool). cond b (Some (with_sign s q)) None) (and_false (eqb (m * up e % down e) 0) _ h)
+    ap (λ (b : Bool). cond b (Some (with_sign s q)) None) (and_right (eqb (m * up e % down e) 0) _ h)
     ∙ sym (ap (λ (b : Bool). cond (b && eq (of_int binary32 (capped s q)) (fin s m e)) (Some (capped s q)) None) (capped_many s q (leb-false q 1048576 h)))
 
 never_nan : (y : Float) → eq y nan ≡ false
@@ -123,32 +116,14 @@ never_nan nan = refl
 never_nan (inf s) = refl
 never_nan (fin s m e) = refl
 
-pub whole_tested : (x : Float) → whole_reading x ≡ cond (is_in_range (to_signed 63 x) && eq (of_int binary32 (to_signed 63 x)) x) (Some (to_signed 63 x)) None
+whole_tested : (x : Float) → whole_reading x ≡ tested (to_signed 63 x) x
 unfolding to_signed
 whole_tested nan = sym (ap (λ (b : Bool). cond b (Some (pos 0)) None) (never_nan (of_int binary32 (pos 0))))
 whole_tested (inf true) = refl
 whole_tested (inf false) = refl
 whole_tested (fin s m e) = finite s m e (leb (m * up e / down e) 1048576) refl
 
--- the tests as the code makes them, on the cut number v and its float y
-pub accepted : (x y : Float) (v : ℤ) → v ≡ to_signed 63 x → is_in_range v ≡ true → y ≡ of_int binary32 v → eq y x ≡ true → Some v ≡ whole_reading x
-accepted x y v cut range float same =
-    sym (whole_tested x
-    ∙ ap (λ (w : ℤ). tested w x) (sym cut)
-    ∙ ap (λ (b : Bool). cond (b && eq (of_int binary32 v) x) (Some v) None) range
-    ∙ ap (λ (f : Float). cond (eq f x) (Some v) None) (sym float)
-    ∙ ap (λ (b : Bool). cond b (Some v) None) same)
-
-pub refused_unlike : (x y : Float) (v : ℤ) → v ≡ to_signed 63 x → is_in_range v ≡ true → y ≡ of_int binary32 v → eq y x ≡ false → None ≡ whole_reading x
-refused_unlike x y v cut range float unlike =
-    sym (whole_tested x
-    ∙ ap (λ (w : ℤ). tested w x) (sym cut)
-    ∙ ap (λ (b : Bool). cond (b && eq (of_int binary32 v) x) (Some v) None) range
-    ∙ ap (λ (f : Float). cond (eq f x) (Some v) None) (sym float)
-    ∙ ap (λ (b : Bool). cond b (Some v) None) unlike)
-
-pub refused_beyond : (x : Float) (v : ℤ) → v ≡ to_signed 63 x → is_in_range v ≡ false → None ≡ whole_reading x
-refused_beyond x v cut range =
-    sym (whole_tested x
-    ∙ ap (λ (w : ℤ). tested w x) (sym cut)
-    ∙ ap (λ (b : Bool). cond (b && eq (of_int binary32 v) x) (Some v) None) range)
+-- the tests as the code makes them, on the cut number v
+pub tells_whole : (x : Float) (v : ℤ) (b : Bool) → v ≡ to_signed 63 x → b ≡ (is_in_range v && eq (of_int binary32 v) x) → then_some b v ≡ whole_reading x
+tells_whole x v b cut test =
+    then_some_is b v ∙ ap (λ (t : Bool). cond t (Some v) None) test ∙ ap (λ (w : ℤ). tested w x) cut ∙ sym (whole_tested x)

@@ -10,15 +10,15 @@ use sources::is_in_range;
 use std::num::{nearest_i64_to_f32, saturating_f32_to_i64};
 
 // A force as an instrument gives it.
-#[derive(Clone, Copy)]
+#[derive(Clone, Copy, PartialEq, Debug)]
 pub struct RawForce {
     pub x: f32,
     pub y: f32,
     pub z: f32,
 }
 
-// A force in whole numbers. A field beyond the range of a reading, which no making hands out, tells 0.
-#[derive(Clone, Copy)]
+// A force in whole numbers. By a rule of the project it is a plain record with no invariant: a field beyond the range of a reading, which no making hands out, tells 0.
+#[derive(Clone, Copy, PartialEq, Eq, Debug)]
 pub struct Force {
     x: i64,
     y: i64,
@@ -30,29 +30,23 @@ fn whole(value: f32) -> Option<i64>
     ensures { result ≡ whole_reading value }
 {
     let cut = saturating_f32_to_i64(value);
-    if is_in_range(cut) && nearest_i64_to_f32(cut) == value {
-        Some(cut)
-    } else {
-        None
-    }
+    (is_in_range(cut) && nearest_i64_to_f32(cut) == value).then_some(cut)
 }
 
 // A component from its float, refused at its place.
 fn whole_component(value: f32, place: usize) -> Result<i64, Fault>
     ensures { result ≡ component_made (whole_reading value) place }
 {
-    whole(value).ok_or(Fault {
-        cause: Cause::ForceComponent,
-        layer: Origin::Source,
-        place,
-    })
+    whole(value).ok_or(Origin::Source.fault(Cause::ForceComponent, place))
 }
 
-impl Force {
-    // The force, refused at the first component that is no whole number within the range of a reading. Minus zero is 0.
-    pub fn new(raw: RawForce) -> Result<Force, Fault>
-        ensures { result ≡ force_made raw }
-    {
+// The force, refused at the first component that is no whole number within the range of a reading. Minus zero is 0.
+impl TryFrom<RawForce> for Force {
+    type Error = Fault;
+
+    ghost try_from_gives = { λ raw made. made ≡ force_made raw };
+
+    fn try_from(raw: RawForce) -> Result<Force, Fault> {
         Ok(Force {
             x: whole_component(raw.x, 0)?,
             y: whole_component(raw.y, 1)?,

@@ -7,25 +7,23 @@ use crate::kind::{ReadingKind, reading_or_zero};
 use rules::{Cause, Fault, Origin};
 use sources::is_in_range;
 
-// One whole number. A field beyond the range of a reading, which no making hands out, tells 0.
-#[derive(Clone, Copy)]
+// One whole number. By a rule of the project it is a plain record with no invariant: a field beyond the range of a reading, which no making hands out, tells 0.
+#[derive(Clone, Copy, PartialEq, Eq, Debug)]
 pub struct Number {
     value: i64,
 }
 
-impl Number {
-    // The number, refused beyond the range of a reading.
-    pub fn new(value: i64) -> Result<Number, Fault>
-        ensures { result ≡ number_made value }
-    {
+// The number, refused beyond the range of a reading.
+impl TryFrom<i64> for Number {
+    type Error = Fault;
+
+    ghost try_from_gives = { λ value made. made ≡ number_made value };
+
+    fn try_from(value: i64) -> Result<Number, Fault> {
         if is_in_range(value) {
             Ok(Number { value })
         } else {
-            Err(Fault {
-                cause: Cause::ReadingRange,
-                layer: Origin::Source,
-                place: 0,
-            })
+            Err(Origin::Source.fault(Cause::ReadingRange, 0))
         }
     }
 }

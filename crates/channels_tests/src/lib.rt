@@ -19,6 +19,7 @@ mod tests {
     const LIMIT: i64 = 1_048_576;
 
     // A refusal of a source, by its number and place.
+    // Other crates of tests have the like: a crate for a few lines would stand below them all.
     fn is_refusal(rt: &impl Abort, fault: Fault, number: u8, place: usize) {
         assert_eq!(rt; fault.cause.number(), number);
         assert_eq!(rt; fault.layer.name(), "SOURCE");
@@ -27,8 +28,8 @@ mod tests {
 
     // A record tells these components, the first past the last among them.
     fn tells<E: ReadingKind + Drop>(rt: &impl Abort, item: E, components: [i64; 4]) {
-        for index in 0..4 {
-            assert_eq!(rt; item.component(index), components[index]);
+        for (index, component) in components.into_iter().enumerate() {
+            assert_eq!(rt; item.component(index), component);
         }
         assert_eq!(rt; item.component(usize::MAX), 0);
     }
@@ -36,46 +37,32 @@ mod tests {
     #[test]
     fn numbers(rt: HostRuntime) -> Result<(), Fail> {
         for value in [0, 1, -1, LIMIT, -LIMIT] {
-            tells(&rt, Number::new(value)?, [value, 0, 0, 0]);
+            tells(&rt, Number::try_from(value)?, [value, 0, 0, 0]);
         }
         for value in [LIMIT + 1, -LIMIT - 1, i64::MAX, i64::MIN] {
-            let fault = Number::new(value).err().ok_or("not refused")?;
+            let fault = Number::try_from(value).err().ok_or("not refused")?;
             is_refusal(&rt, fault, 11, 0);
         }
         assert_eq!(rt; Number::component_count(), 1);
         Ok(())
     }
 
-    #[derive(Clone, Copy)]
-    struct ForceCase {
-        raw: [f32; 3],
-        whole: [i64; 3],
-    }
-
     fn force(raw: [f32; 3]) -> Result<Force, Fault> {
         let [x, y, z] = raw;
-        Force::new(RawForce { x, y, z })
+        Force::try_from(RawForce { x, y, z })
     }
 
     #[test]
     fn forces(rt: HostRuntime) -> Result<(), Fail> {
-        let cases = [
-            ForceCase {
-                raw: [0.0, -0.0, 1.0],
-                whole: [0, 0, 1],
-            },
-            ForceCase {
-                raw: [-1.0, 3.0, -1024.0],
-                whole: [-1, 3, -1024],
-            },
-            ForceCase {
-                raw: [1048576.0, -1048576.0, 1048575.0],
-                whole: [LIMIT, -LIMIT, LIMIT - 1],
-            },
-        ];
-        for case in &cases {
-            let [x, y, z] = case.whole;
-            tells(&rt, force(case.raw)?, [x, y, z, 0]);
+        for (raw, [x, y, z]) in [
+            ([0.0, -0.0, 1.0], [0, 0, 1]),
+            ([-1.0, 3.0, -1024.0], [-1, 3, -1024]),
+            (
+                [1048576.0, -1048576.0, 1048575.0],
+                [LIMIT, -LIMIT, LIMIT - 1],
+            ),
+        ] {
+            tells(&rt, force(raw)?, [x, y, z, 0]);
         }
         assert_eq!(rt; Force::component_count(), 3);
         Ok(())
@@ -113,11 +100,6 @@ mod tests {
         Ok(())
     }
 
-    // What any source tells at a station.
-    fn told<S: Source>(source: &S, station: usize) -> Option<i64> {
-        source.reading(station)
-    }
-
     // A channel refuses by this number, at this place.
     fn channel_refuses<E: ReadingKind>(
         rt: &impl Abort,
@@ -141,17 +123,14 @@ mod tests {
         assert_eq!(rt; channel.tolerance(), 3);
         for station in [0, 1, 1023, 1024, 1025, 1026, usize::MAX] {
             let present = station < length && station <= 1024;
-            assert_eq!(rt;
-                told(&channel, station),
-                if present { Some(7) } else { None }
-            );
+            assert_eq!(rt; channel.reading(station), present.then_some(7));
         }
         Ok(())
     }
 
     #[test]
     fn stations(rt: HostRuntime) -> Result<(), Fail> {
-        let numbers = [Number::new(7)?; 1026];
+        let numbers = [Number::try_from(7)?; 1026];
         for length in [0, 1, 1025, 1026] {
             tells_sevens(&rt, &numbers, length)?;
         }
@@ -166,8 +145,8 @@ mod tests {
         readings: [Option<i64>; 3],
     ) -> Result<(), Fail> {
         let channel = Channel::new(elements, component, 0)?;
-        for station in 0..3 {
-            assert_eq!(rt; told(&channel, station), readings[station]);
+        for (station, reading) in readings.into_iter().enumerate() {
+            assert_eq!(rt; channel.reading(station), reading);
         }
         Ok(())
     }
@@ -186,7 +165,7 @@ mod tests {
 
     #[test]
     fn tolerances(rt: HostRuntime) -> Result<(), Fail> {
-        let numbers = [Number::new(1)?];
+        let numbers = [Number::try_from(1)?];
         for tolerance in [0, 1, 1_048_576] {
             assert_eq!(rt;
                 Channel::new(&numbers, 0, tolerance)?.tolerance(),

@@ -89,8 +89,7 @@ read_there w None none h =
     zero_size w e = omega (arith, ints)
 
 not_empty : (o : Option ℕ) → empty_station Run o ≡ None → o ≡ None
-not_empty (Some s) e = let z : ◌≡◌ {A = ℕ} 0 1 = cc in absurd (omega arith)
-not_empty None e = refl
+not_empty o e = grind arith
 
 -- the weighted sum of the readings is within the radius of that of the values: |q·V − P| ≤ q·R
 sum_within : (m : Meaning) (r : Readings) → lowest_empty m.weighting r ≡ None → (p : Polynomial) → Fits p r →

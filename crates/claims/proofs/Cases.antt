@@ -1,5 +1,5 @@
 -- The law of one case.
-use Rattle.std.proofs.Common.{◌≡◌, ℕ, ◌≤◌, Bool, true, false, cond, leb, List, length, take, drop, Ok, Err, Result, sym, refl, ap, ◌∙◌, subst, arith}
+use Rattle.std.proofs.Common.{◌≡◌, ℕ, ◌≤◌, Bool, true, false, cond, leb, List, length, take, drop, Ok, Err, Option, Result, sym, refl, ap, ◌∙◌, subst, subst₂, arith}
 use lib.Seq.{take-append-le}
 use Rattle.std.proofs.lemmas.Bool.{leb-true}
 use Rattle.rules.specs.Faults.{carried}
@@ -10,7 +10,7 @@ use Rattle.rules.specs.declared.fault.Origin.TheVariants.{Layer as FromLayer, Ou
 use Rattle.layers.specs.Layers.{at_place, piling}
 use Rattle.layers.specs.declared.layer.Layer.{Layer}
 use Rattle.runs.specs.Ledger.{Entry, blank}
-use Rattle.runs.specs.declared.call.Reply.{Reply}
+use Rattle.runs.specs.declared.estimate.Estimate.{Estimate}
 use Rattle.claims.specs.Histories.{ledger_after, replies_to}
 use Rattle.claims.specs.Laws.{CaseLaw, PileLaw}
 use Rattle.claims.specs.Replays.{Account, replayed, replies_left, too_few_places}
@@ -31,8 +31,7 @@ abbrev with_room : List Entry → Bool → Meaning → Result Account Fault
 with_room es t m = cond t (Ok (finished m es)) (Err (too_few_places es))
 
 roomy : (es : List Entry) (t : Bool) (m : Meaning) (a : Account) → with_room es t m ≡ Ok a → (t ≡ true) × (finished m es ≡ a)
-roomy es true m a e = (refl, cc)
-roomy es false m a e = absurd (let z : ◌≡◌ {A = ℕ} 0 1 = cc in omega arith)
+roomy es t m a e = grind arith
 
 whole : (b : Meaning) (ls : List Layer) (es : List Entry) (places : ℕ) (a : Account) → replayed b ls es places ≡ Ok a → Whole b ls es places a
 whole b ls es places a e = go (piling ls 1 b) refl e
@@ -45,7 +44,7 @@ whole b ls es places a e = go (piling ls 1 b) refl e
           ledger = sym (ap (λ c. c.ledger) p.1) ∙ ap (λ c. ledger_after c.pile es) p.1;
           room = leb-true _ _ p.0;
         }
-    go (Err f) is h = absurd (let z : ◌≡◌ {A = ℕ} 0 1 = cc in omega arith)
+    go (Err f) is h = cc
 
 -- a refusal by a layer is one of the pile
 by_layer : (b : Meaning) (ls : List Layer) (es : List Entry) (places place : ℕ) (cause : Cause) → replayed b ls es places ≡ Err (at_place place cause) → piling ls 1 b ≡ Err (at_place place cause)
@@ -55,12 +54,11 @@ by_layer b ls es places place cause e = go (piling ls 1 b) refl e
     go (Ok m) is h = absurd (other (leb (length es) places) h)
       where
         other : (t : Bool) → with_room es t m ≡ Err (at_place place cause) → ⊥
-        other true q = let z : ◌≡◌ {A = ℕ} 0 1 = cc in omega arith
+        other true q = cc
         other false q =
             let fault : at_place place cause ≡ too_few_places es = cc in
             let origin : FromLayer ≡ Output = ap (λ f. f.layer) fault in
-            let z : ◌≡◌ {A = ℕ} 0 1 = cc in
-            omega arith
+            cc
     go (Err f) is h = is ∙ cc
 
 pile_law : (b : Meaning) (ls : List Layer) (es : List Entry) (places : ℕ) → Sound b → PileLaw b ls (replayed b ls es places)
@@ -73,12 +71,12 @@ pile_law b ls es places sound = record {
   degrees = λ below above l split e. degrees below l b e;
 }
 
-answered : (b : Meaning) (ls : List Layer) (es : List Entry) (before : List Reply) (a : Account) → replayed b ls es (length before) ≡ Ok a → (n : ℕ) → n ≤ length es → take n (replies_left (replayed b ls es (length before)) es before) ≡ replies_to a.pile (take n es)
+answered : (b : Meaning) (ls : List Layer) (es : List Entry) (before : List (Result (Option Estimate) Fault)) (a : Account) → replayed b ls es (length before) ≡ Ok a → (n : ℕ) → n ≤ length es → take n (replies_left (replayed b ls es (length before)) es before) ≡ replies_to a.pile (take n es)
 answered b ls es before a e n h =
     let few : n ≤ length (replies_to a.pile es) = omega (arith, replies_length a.pile blank es) in
     ap (λ r. take n (replies_left r es before)) e ∙ take-append-le n (replies_to a.pile es) (drop (length es) before) few ∙ replies_prefix a.pile es n
 
-case_law : (b : Meaning) (ls : List Layer) (es : List Entry) (before : List Reply) → Sound b → CaseLaw b ls es (replayed b ls es (length before)) (replies_left (replayed b ls es (length before)) es before)
+case_law : (b : Meaning) (ls : List Layer) (es : List Entry) (before : List (Result (Option Estimate) Fault)) → Sound b → CaseLaw b ls es (replayed b ls es (length before)) (replies_left (replayed b ls es (length before)) es before)
 case_law b ls es before sound =
     let law = pile_law b ls es (length before) sound in
     record {
@@ -90,7 +88,5 @@ case_law b ls es before sound =
     }
 
 -- the same for what a call told and wrote
-pub case_law_of : (b : Meaning) (ls : List Layer) (es : List Entry) (before : List Reply) (told : Result Account Fault) (replies : List Reply) → Sound b → told ≡ replayed b ls es (length before) → replies ≡ replies_left told es before → CaseLaw b ls es told replies
-case_law_of b ls es before told replies sound et er =
-    subst (λ r. CaseLaw b ls es told r) (sym er)
-    (subst (λ t. CaseLaw b ls es t (replies_left t es before)) (sym et) (case_law b ls es before sound))
+pub case_law_of : (b : Meaning) (ls : List Layer) (es : List Entry) (before : List (Result (Option Estimate) Fault)) (told : Result Account Fault) (replies : List (Result (Option Estimate) Fault)) → Sound b → told ≡ replayed b ls es (length before) → replies ≡ replies_left (replayed b ls es (length before)) es before → CaseLaw b ls es told replies
+case_law_of b ls es before told replies sound et er = subst₂ (CaseLaw b ls es) (sym et) (sym er) (case_law b ls es before sound)

@@ -1,5 +1,5 @@
 -- The ledger and the replies after a list of calls, and what a person who reads the list knows of the ledger.
-use Rattle.std.proofs.Common.{◌≡◌, ℕ, zero, suc, ◌≤◌, max, Bool, true, false, cond, eqb, leb, ◌⊎◌, List, [], ◌∷◌, ◌++◌, length, take, ℤ, Some, None, Option, sym, refl, ap, ◌∙◌, subst, subst₂, inl, inr, append_assoc, append-nil, arith}
+use Rattle.std.proofs.Common.{◌≡◌, ℕ, zero, suc, ◌≤◌, max, Bool, true, cond, eqb, leb, ◌⊎◌, List, [], ◌∷◌, ◌++◌, length, take, ℤ, Some, None, Option, sym, refl, ap, ◌∙◌, subst, subst₂, inl, inr, append_assoc, append-nil, arith}
 use Rattle.rules.specs.Meaning.{Meaning}
 use Rattle.rules.specs.declared.fault.Fault.{Fault}
 use Rattle.sources.specs.Readings.{Readings}
@@ -35,10 +35,10 @@ from_end : (P : List Entry → Type 0) → ((xs : List Entry) (e : Entry) → P 
 from_end P more done [] p = subst P (sym (append-nil done)) p
 from_end P more done (e ∷ es) p = subst P (append_assoc done (e ∷ []) es) (from_end P more (done ++ (e ∷ [])) es (more done e p))
 
--- the empty list holds no call
-no_split : (xs : List Entry) (e : Entry) (ys : List Entry) → [] ≡ xs ++ (e ∷ ys) → ⊥
-no_split [] e ys p = let z : ◌≡◌ {A = ℕ} 0 1 = cc in omega arith
-no_split (x ∷ xs) e ys p = let z : ◌≡◌ {A = ℕ} 0 1 = cc in omega arith
+-- the empty list holds nothing
+pub no_split : {A : Type 0} (xs : List A) (e : A) (ys : List A) → [] ≡ xs ++ (e ∷ ys) → ⊥
+no_split [] e ys p = cc
+no_split (x ∷ xs) e ys p = cc
 
 -- a call of `xs` followed by e is that e, or one of `xs`
 cut : (xs : List Entry) (e : Entry) (before : List Entry) (call : Entry) (later : List Entry) → xs ++ (e ∷ []) ≡ before ++ (call ∷ later) →
@@ -75,13 +75,10 @@ written_over (Some w) old = w
 written_over None old = old
 
 put_over : (b : Bool) (w old : Option ℤ) → cond b w old ≡ written_over (cond b (Some w) None) old
-put_over true w old = refl
-put_over false w old = refl
+put_over b w old = grind arith
 
 load_over : (b : Bool) (told old : Option ℤ) → cond b (or_kept told old) old ≡ written_over (cond b (written told) None) old
-load_over true (Some v) old = refl
-load_over true None old = refl
-load_over false told old = refl
+load_over b told old = grind arith
 
 -- an accepted call writes what `writes` says, and no more
 changed_reading : (m : Meaning) (l : Ledger) (e : Entry) (s : ℕ) → (changed m l e).readings.reading s ≡ written_over (writes m e s) (l.readings.reading s)
@@ -229,7 +226,7 @@ greater_of : (a b : ℕ) → (max a b ≡ a) ⊎ (b ≡ max a b)
 greater_of a b = grind arith
 
 not_declaring : (source : Readings) → Declares (loading source) → ⊥
-not_declaring source (t, is) = let z : ◌≡◌ {A = ℕ} 0 1 = cc in omega arith
+not_declaring source (t, is) = cc
 
 -- the tolerance after an accepted call
 tolerance_changed : (m : Meaning) (xs : List Entry) (l : Ledger) (e : Entry) → Accepted m xs e → ToleranceKept m xs l.readings.tolerance → ToleranceKept m (xs ++ (e ∷ [])) (changed m l e).readings.tolerance
@@ -299,7 +296,7 @@ accepted m xs l e a kept = record {
     reads s v None put is = write_kept m xs e s (Some v) (kept.reads s v (ap (λ t. written_over t (l.readings.reading s)) (sym put) ∙ is)) (λ _. put)
 
     untouched : (s : ℕ) (v : ℤ) (w : Option (Option ℤ)) → writes m e s ≡ w → ((writes m e s ≡ None → ⊥) → ⊥) → l.readings.reading s ≡ Some v → written_over (writes m e s) (l.readings.reading s) ≡ Some v
-    untouched s v (Some w) put untold is = absurd (untold (λ none. let z : ◌≡◌ {A = ℕ} 0 1 = cc in omega arith))
+    untouched s v (Some w) put untold is = absurd (untold (λ none. cc))
     untouched s v None put untold is = ap (λ t. written_over t (l.readings.reading s)) put ∙ is
 
 -- one more call
@@ -307,13 +304,13 @@ kept_more : (m : Meaning) (xs : List Entry) (e : Entry) → Kept m xs (ledger_af
 kept_more m xs e kept = subst (Kept m (xs ++ (e ∷ []))) (sym (ledger_append m blank xs (e ∷ []))) (go (refusal m (ledger_after m xs) e) refl)
   where
     go : (r : Option Fault) → refusal m (ledger_after m xs) e ≡ r → Kept m (xs ++ (e ∷ [])) (unless_refused r (ledger_after m xs) (changed m (ledger_after m xs) e))
-    go (Some f) is = refused m xs (ledger_after m xs) e (λ a. let z : ◌≡◌ {A = ℕ} 0 1 = cc in omega arith) kept
+    go (Some f) is = refused m xs (ledger_after m xs) e (λ a. cc) kept
     go None is = accepted m xs (ledger_after m xs) e is kept
 
 -- before any call
 kept_at_first : (m : Meaning) → Kept m [] blank
 kept_at_first m = record {
-  reads = λ s v is. let z : ◌≡◌ {A = ℕ} 0 1 = cc in absurd (omega arith);
+  reads = λ s v is. cc;
   reads_only = λ s v now. absurd (no_split now.before now.call now.later now.split);
   tolerance = record {
     before = [];
@@ -324,7 +321,7 @@ kept_at_first m = record {
     at_least_loads = λ source now. absurd (no_split now.earlier (loading source) now.rest now.split);
     one_of_them = inl refl;
   };
-  published = λ is. let z : ◌≡◌ {A = ℕ} 0 1 = cc in absurd (omega arith);
+  published = λ is. cc;
   published_only = λ now. absurd (no_split now.before publishing now.later now.split);
 }
 

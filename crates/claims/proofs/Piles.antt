@@ -1,5 +1,5 @@
 -- A list of layers: its pile, and where it is refused.
-use Rattle.std.proofs.Common.{◌≡◌, ℕ, ◌+◌, List, [], ◌∷◌, ◌++◌, length, Some, None, Ok, Err, Option, Result, sym, refl, ap, ◌∙◌, subst, arith}
+use Rattle.std.proofs.Common.{◌≡◌, ℕ, ◌+◌, List, [], ◌∷◌, ◌++◌, length, Some, None, Ok, Err, Option, sym, refl, ap, ◌∙◌, subst, arith}
 use Rattle.rules.specs.Faults.{carried}
 use Rattle.rules.specs.Meaning.{Meaning, Sound}
 use Rattle.rules.specs.declared.fault.Cause.{Cause}
@@ -9,6 +9,7 @@ use Rattle.layers.specs.declared.layer.Layer.{Layer}
 use Rattle.layers.specs.declared.layer.Layer.TheVariants.{LowestTerms, Mirror, Panels, Refinement, Stretch}
 use Rattle.layers.proofs.Keeps.{laid_sound}
 use Rattle.claims.specs.Laws.{AllAccepted, RefusedAt, degree_over}
+use Rattle.claims.proofs.Keeping.{no_split}
 
 pub piled_sound : (ls : List Layer) (b : Meaning) → Sound b → Sound (piled ls b)
 piled_sound [] b h = h
@@ -51,16 +52,6 @@ accepted_more l ls b e h (x ∷ below) above k is =
 accepted_rest : (l : Layer) (ls : List Layer) (b : Meaning) → AllAccepted (l ∷ ls) b → AllAccepted ls (laid l b)
 accepted_rest l ls b h below above k is = h (l ∷ below) above k (ap (λ xs. l ∷ xs) is)
 
-not_nil : (below above : List Layer) (l : Layer) → [] ≡ below ++ (l ∷ above) → ⊥
-not_nil [] above l is = let z : ◌≡◌ {A = ℕ} 0 1 = cc in omega arith
-not_nil (x ∷ below) above l is = let z : ◌≡◌ {A = ℕ} 0 1 = cc in omega arith
-
-ok_not_err : {A : Type 0} (a : A) (f : Fault) → ◌≡◌ {A = Result A Fault} (Ok a) (Err f) → ⊥
-ok_not_err a f e = let z : ◌≡◌ {A = ℕ} 0 1 = cc in omega arith
-
-err_same : (f g : Fault) → ◌≡◌ {A = Result Meaning Fault} (Err f) (Err g) → f ≡ g
-err_same f g q = cc
-
 -- the layers above an accepted one, and above a refused one
 above_accepted : (l : Layer) (ls : List Layer) (p : ℕ) (b : Meaning) → refusal l b ≡ None → piling ls (p + 1) (laid l b) ≡ piling (l ∷ ls) p b
 above_accepted l ls p b is =
@@ -70,14 +61,14 @@ above_refused : (l : Layer) (ls : List Layer) (p : ℕ) (b : Meaning) (c : Cause
 above_refused l ls p b c is = ap (λ r. carried r (λ n. piling ls (p + 1) n)) (making_refused l p b c is)
 
 pub piling_ok : (ls : List Layer) (p : ℕ) (b m : Meaning) → piling ls p b ≡ Ok m → (m ≡ piled ls b) × AllAccepted ls b
-piling_ok [] p b m e = (cc, λ below above l is. absurd (not_nil below above l is))
+piling_ok [] p b m e = (cc, λ below above l is. absurd (no_split below l above is))
 piling_ok (l ∷ ls) p b m e = go (refusal l b) refl (piling_ok ls (p + 1) (laid l b) m)
   where
     go : (o : Option Cause) → refusal l b ≡ o → (piling ls (p + 1) (laid l b) ≡ Ok m → (m ≡ piled ls (laid l b)) × AllAccepted ls (laid l b)) → (m ≡ piled (l ∷ ls) b) × AllAccepted (l ∷ ls) b
     go None is more =
         let h = more (above_accepted l ls p b is ∙ e) in
         (h.0, accepted_more l ls b is h.1)
-    go (Some c) is more = absurd (ok_not_err m (at_place p c) (sym e ∙ above_refused l ls p b c is))
+    go (Some c) is more = let stopped = above_refused l ls p b c is in cc
 
 -- the lowest refused layer of a list that begins at place p
 record Stops (p : ℕ) (ls : List Layer) (b : Meaning) (e : Fault) : Type 0 where
@@ -91,7 +82,7 @@ record Stops (p : ℕ) (ls : List Layer) (b : Meaning) (e : Fault) : Type 0 wher
   pub fault : e ≡ at_place (length below + p) cause
 
 piling_err : (ls : List Layer) (p : ℕ) (b : Meaning) (e : Fault) → piling ls p b ≡ Err e → Stops p ls b e
-piling_err [] p b e h = absurd (ok_not_err b e h)
+piling_err [] p b e h = cc
 piling_err (l ∷ ls) p b e h = go (refusal l b) refl (piling_err ls (p + 1) (laid l b) e)
   where
     go : (o : Option Cause) → refusal l b ≡ o → (piling ls (p + 1) (laid l b) ≡ Err e → Stops (p + 1) ls (laid l b) e) → Stops p (l ∷ ls) b e
@@ -108,14 +99,15 @@ piling_err (l ∷ ls) p b e h = go (refusal l b) refl (piling_err ls (p + 1) (la
           fault = s.fault ∙ ap (λ n. at_place n s.cause) (omega arith);
         }
     go (Some c) is more =
-        let same : e ≡ at_place p c = err_same e (at_place p c) (sym h ∙ above_refused l ls p b c is) in
+        let stopped = above_refused l ls p b c is in
+        let same : e ≡ at_place p c = cc in
         record {
           below = [];
           layer = l;
           above = ls;
           cause = c;
           split = refl;
-          accepted = λ xs ys k split. absurd (not_nil xs ys k split);
+          accepted = λ xs ys k split. absurd (no_split xs k ys split);
           refused = is;
           fault = same ∙ ap (λ n. at_place n c) (omega arith);
         }

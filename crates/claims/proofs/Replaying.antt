@@ -1,33 +1,30 @@
 -- Steps of a loop that performs calls and writes their replies.
-use Rattle.std.proofs.Common.{◌≡◌, ℕ, ◌+◌, ◌<◌, ◌≤◌, cond, leb, List, [], ◌∷◌, ◌++◌, map, length, get_or, take, drop, set, Ok, Err, Result, sym, refl, ap, ◌∙◌, ap₂, append_assoc, append-nil, add-one, arith, length-set, take-append-drop, drop-cons, drop-drop, drop-set-lt}
+use Rattle.std.proofs.Common.{◌≡◌, ℕ, ◌+◌, ◌<◌, List, [], ◌∷◌, ◌++◌, map, length, get_or, take, drop, set, Option, Result, sym, refl, ap, ◌∙◌, ap₂, append_assoc, append-nil, add-one, arith, length-set, take-append-drop, drop-cons, drop-drop, drop-set-lt}
 use Rattle.std.proofs.lemmas.List.{take_more_set}
-use Rattle.std.proofs.lemmas.Bool.{cond-false, cond-true, le-leb, lt-leb}
-use Rattle.rules.specs.Faults.{carried}
 use Rattle.rules.specs.Meaning.{Meaning}
 use Rattle.rules.specs.declared.fault.Fault.{Fault}
-use Rattle.layers.specs.Layers.{piling}
-use Rattle.layers.specs.declared.layer.Layer.{Layer}
 use Rattle.runs.specs.Ledger.{Entry, Ledger, answer, step}
-use Rattle.runs.specs.declared.call.Reply.{Reply}
-use Rattle.claims.specs.Histories.{ledger_after, ledger_from, replies_from}
-use Rattle.claims.specs.Replays.{replayed, too_few_places}
+use Rattle.runs.specs.declared.estimate.Estimate.{Estimate}
+use Rattle.claims.specs.Histories.{ledger_from, replies_from}
 
 -- after i calls, whose replies are written as `shown` has them: the ledger is k, and what is left gives the rest of the ledger and of the replies; the places from i on are as they were
-pub record Underway {B : Type 0} (shown : Reply → B) (m : Meaning) (l : Ledger) (rest es : List Entry) (places now : List B) (i : ℕ) (k : Ledger) : Type 0 where
+pub record Underway {B : Type 0} (shown : Result (Option Estimate) Fault → B) (m : Meaning) (l : Ledger) (rest es : List Entry) (places now : List B) (i : ℕ) (k : Ledger) : Type 0 where
   pub ledger : ledger_from m k rest ≡ ledger_from m l es
   pub replies : take i now ++ map shown (replies_from m k rest) ≡ map shown (replies_from m l es)
   pub beyond : drop i now ≡ drop i places
   pub long : length now ≡ length places
+
+-- the steps of the loop, which the check finds alone today; they stay as the page of the port (docs/PORT.md) names them
 
 -- the call that comes next, and those after it
 pub next_entry : {A : Type 0} (f : A → Entry) (xs : List A) (i : ℕ) (x : A) → i < length xs → x ≡ get_or xs i x → map f (drop i xs) ≡ f x ∷ map f (drop (i + 1) xs)
 next_entry f xs i x h is =
     ap (map f) (drop-cons xs i x h ∙ ap₂ (λ y n. y ∷ drop n xs) (sym is) (sym (add-one i)))
 
-pub underway_none : {B : Type 0} (shown : Reply → B) (m : Meaning) (l : Ledger) (es : List Entry) (places : List B) → Underway shown m l es es places places 0 l
+pub underway_none : {B : Type 0} (shown : Result (Option Estimate) Fault → B) (m : Meaning) (l : Ledger) (es : List Entry) (places : List B) → Underway shown m l es es places places 0 l
 underway_none shown m l es places = record { ledger = refl; replies = refl; beyond = refl; long = refl }
 
-module _ {B : Type 0} (shown : Reply → B) (m : Meaning) (l : Ledger) (es : List Entry) (places now : List B) (i : ℕ) (k : Ledger) where
+module _ {B : Type 0} (shown : Result (Option Estimate) Fault → B) (m : Meaning) (l : Ledger) (es : List Entry) (places now : List B) (i : ℕ) (k : Ledger) where
   pub underway_more : (e : Entry) (rest : List Entry) (r : B) (after : Ledger) → i < length now → r ≡ shown (answer m k e) → after ≡ step m k e → Underway shown m l (e ∷ rest) es places now i k → Underway shown m l rest es places (set now i r) (i + 1) after
   underway_more e rest r after h er ek u = record {
     ledger = ap (λ t. ledger_from m t rest) ek ∙ u.ledger;
@@ -45,15 +42,3 @@ module _ {B : Type 0} (shown : Reply → B) (m : Meaning) (l : Ledger) (es : Lis
   pub underway_replies : Underway shown m l [] es places now i k → now ≡ map shown (replies_from m l es) ++ drop i places
   underway_replies u =
       sym (take-append-drop i now) ∙ ap₂ (λ s t. s ++ t) (sym (append-nil (take i now)) ∙ u.replies) u.beyond
-
--- a case whose layers are all accepted
-module _ (b m : Meaning) (ls : List Layer) (es : List Entry) (places : ℕ) (piled : ◌≡◌ {A = Result Meaning Fault} (Ok m) (piling ls 1 b)) where
-  pub replayed_short : places < length es → replayed b ls es places ≡ Err (too_few_places es)
-  replayed_short h =
-      sym (ap (λ r. carried r (λ n. cond (leb (length es) places) (Ok (record { pile = n; ledger = ledger_after n es })) (Err (too_few_places es)))) piled) ∙
-      cond-false _ _ _ (lt-leb (length es) places h)
-
-  pub replayed_whole : length es ≤ places → replayed b ls es places ≡ Ok (record { pile = m; ledger = ledger_after m es })
-  replayed_whole h =
-      sym (ap (λ r. carried r (λ n. cond (leb (length es) places) (Ok (record { pile = n; ledger = ledger_after n es })) (Err (too_few_places es)))) piled) ∙
-      cond-true _ _ _ (le-leb (length es) places h)

@@ -1,5 +1,5 @@
 -- The law of two cases and the verdict on them.
-use Rattle.std.proofs.Common.{◌≡◌, ℕ, min, Bool, true, false, cond, not, eqb, Some, None, Ok, Option, Result, sym, refl, ap, ◌∙◌, ap₂, arith}
+use Rattle.std.proofs.Common.{◌≡◌, ℕ, min, Bool, cond, not, eqb, Some, None, Ok, Option, Result, sym, refl, ap, ap₂, arith}
 use Rattle.rules.specs.Meaning.{Meaning, Sound}
 use Rattle.rules.specs.declared.fault.Cause.TheVariants.{SpansDiffer}
 use Rattle.rules.specs.declared.fault.Fault.{Fault}
@@ -17,21 +17,15 @@ use Rattle.claims.proofs.Bands.{common_shared, of_lesser_degree}
 both_given : (first second : Result Account Fault) (a c : Account) → first ≡ Ok a → second ≡ Ok c → verdict_between first second ≡ Some (verdict_of a.pile a.ledger c.pile c.ledger)
 both_given first second a c ea ec = ap₂ verdict_between ea ec
 
-some_same : (v w : Result Verdict Fault) → ◌≡◌ {A = Option (Result Verdict Fault)} (Some v) (Some w) → v ≡ w
-some_same v w e = cc
-
 -- a verdict that is given finds a result in both runs
 passed : (t : Bool) (f : Fault) (o : Option Fault) → cond t (Some f) o ≡ None → o ≡ None
-passed true f o e = let z : ◌≡◌ {A = ℕ} 0 1 = cc in absurd (omega arith)
-passed false f o e = e
+passed t f o e = grind arith
 
 neither : (x y : Option Fault) → first_fault x y ≡ None → (x ≡ None) × (y ≡ None)
-neither (Some f) y e = let z : ◌≡◌ {A = ℕ} 0 1 = cc in absurd (omega arith)
-neither None y e = (refl, e)
+neither x y e = grind arith
 
 run_none : (o : Option ℕ) → empty_station Other o ≡ None → empty_station Run o ≡ None
-run_none (Some s) e = let z : ◌≡◌ {A = ℕ} 0 1 = cc in absurd (omega arith)
-run_none None e = refl
+run_none o e = grind arith
 
 module _ (m : Meaning) (l : Ledger) (n : Meaning) (k : Ledger) (v : Verdict) (is : verdict_of m l n k ≡ Ok v) where
   complete : (empty_station Run (lowest_empty m.weighting l.readings) ≡ None) × (empty_station Other (lowest_empty n.weighting k.readings) ≡ None)
@@ -51,10 +45,12 @@ pub verdict_law_lem : (first second : Result Account Fault) → ((a : Account) �
 verdict_law_lem first second sound-first sound-second = record {
   given = both_given first second;
   separates = λ a c ea ec v is.
-      let same = some_same v _ (sym is ∙ both_given first second a c ea ec) in
+      let both = both_given first second a c ea ec in
+      let same : v ≡ verdict_of a.pile a.ledger c.pile c.ledger = cc in
       separates a.pile a.ledger c.pile c.ledger (sound-first a ea) (sound-second c ec) v same;
   never_apart = λ a c ea ec spans p deg fa fc is.
-      let same = some_same (verdict_of a.pile a.ledger c.pile c.ledger) (Ok Apart) (sym (both_given first second a c ea ec) ∙ is) in
+      let both = both_given first second a c ea ec in
+      let same : verdict_of a.pile a.ledger c.pile c.ledger ≡ Ok Apart = cc in
       let ra = first_result a.pile a.ledger c.pile c.ledger Apart same in
       let rc = second_result a.pile a.ledger c.pile c.ledger Apart same in
       let lesser = min a.pile.degree c.pile.degree in

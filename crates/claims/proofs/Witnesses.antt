@@ -1,20 +1,16 @@
 -- The figures that meet what the laws suppose, by computing.
-use Rattle.std.proofs.Common.{◌≡◌, ℕ, zero, suc, Bool, true, false, cond, ℤ, pos, Some, None, Option, refl, subst, arith}
+use Rattle.std.proofs.Common.{◌≡◌, ℕ, zero, suc, Bool, cond, ℤ, pos, Some, None, Option, refl, subst, arith}
 use Rattle.algebra.specs.Sums.{sum, ◌^ℤ◌}
 use Rattle.layers.specs.Layers.{factor}
 use Rattle.claims.specs.Polynomials.{Fits, Within, power_integrals}
 use Rattle.claims.specs.Witnesses.{BandHasACase, LawsHaveCases, VerdictsHaveCases, cube, ledger_there}
 
-same_value : (u v : ℤ) → ◌≡◌ {A = Option ℤ} (Some u) (Some v) → u ≡ v
-same_value u v e = cc
-
 no_value : (t : Bool) (v : ℤ) → cond {A = Option ℤ} t None None ≡ Some v → ⊥
-no_value true v e = let z : ◌≡◌ {A = ℕ} 0 1 = cc in omega arith
-no_value false v e = let z : ◌≡◌ {A = ℕ} 0 1 = cc in omega arith
+no_value t v e = grind arith
 
 -- a reading that is the value itself
 at_station : (s : ℕ) (u v : ℤ) → Within cube s u 1 → ◌≡◌ {A = Option ℤ} (Some u) (Some v) → Within cube s v 1
-at_station s u v h e = subst (λ (t : ℤ). Within cube s t 1) (same_value u v e) h
+at_station s u v h e = let same : u ≡ v = cc in subst (λ (t : ℤ). Within cube s t 1) same h
 
 cube_fits : Fits cube ledger_there.readings
 unfolding sum ◌^ℤ◌ factor

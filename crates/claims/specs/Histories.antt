@@ -1,9 +1,10 @@
 -- A list of calls on a new run: the ledger and the replies, and what a person who reads the list knows of the ledger.
-use Rattle.std.specs.Prelude.{◌≡◌, ℕ, ◌≤◌, true, cond, ◌⊎◌, List, [], ◌∷◌, ◌++◌, ℤ, Some, None, Option, ◌==◌, ◌≢◌, nat_le}
+use Rattle.std.specs.Prelude.{◌≡◌, ℕ, ◌≤◌, true, cond, ◌⊎◌, List, [], ◌∷◌, ◌++◌, ℤ, Some, None, Option, Result, ◌==◌, ◌≢◌, nat_le}
 use Rattle.rules.specs.Meaning.{Meaning}
+use Rattle.rules.specs.declared.fault.Fault.{Fault}
 use Rattle.sources.specs.Readings.{Readings}
 use Rattle.runs.specs.Ledger.{Entry, Ledger, answer, asking, blank, declaring, entering, loading, publishing, refusal, step, striking}
-use Rattle.runs.specs.declared.call.Reply.{Reply}
+use Rattle.runs.specs.declared.estimate.Estimate.{Estimate}
 
 -- the ledger after a list of calls
 abbrev pub ledger_from : Meaning → Ledger → List Entry → Ledger
@@ -11,7 +12,7 @@ ledger_from m l [] = l
 ledger_from m l (e ∷ es) = ledger_from m (step m l e) es
 
 -- the replies to a list of calls
-abbrev pub replies_from : Meaning → Ledger → List Entry → List Reply
+abbrev pub replies_from : Meaning → Ledger → List Entry → List (Result (Option Estimate) Fault)
 replies_from m l [] = []
 replies_from m l (e ∷ es) = answer m l e ∷ replies_from m (step m l e) es
 
@@ -19,7 +20,7 @@ replies_from m l (e ∷ es) = answer m l e ∷ replies_from m (step m l e) es
 abbrev pub ledger_after : Meaning → List Entry → Ledger
 ledger_after m es = ledger_from m blank es
 
-abbrev pub replies_to : Meaning → List Entry → List Reply
+abbrev pub replies_to : Meaning → List Entry → List (Result (Option Estimate) Fault)
 replies_to m es = replies_from m blank es
 
 -- the call e is accepted after the calls `before`

@@ -8,7 +8,6 @@ use Rattle.layers.specs.declared.layer.Layer.{Layer}
 use Rattle.layers.specs.declared.layer.Layer.TheVariants.{LowestTerms, Mirror, Panels, Refinement, Stretch}
 use Rattle.runs.specs.Ledger.{Entry, result_of}
 use Rattle.runs.specs.Verdicts.{Separates, inside, verdict_of}
-use Rattle.runs.specs.declared.call.Reply.{Reply}
 use Rattle.runs.specs.declared.estimate.Estimate.{Estimate}
 use Rattle.runs.specs.declared.verdict.Verdict.{Verdict}
 use Rattle.runs.specs.declared.verdict.Verdict.TheVariants.{Apart}
@@ -52,7 +51,7 @@ pub record PileLaw (b : Meaning) (ls : List Layer) (told : Result Account Fault)
   pub degrees : (below above : List Layer) (l : Layer) → ls ≡ below ++ (l ∷ above) → refusal l (piled below b) ≡ None → (piled (below ++ (l ∷ [])) b).degree ≡ degree_over l (piled below b)
 
 -- one case: a rule b that keeps the promises, layers and calls, what the case told, and the replies that it wrote
-pub record CaseLaw (b : Meaning) (ls : List Layer) (es : List Entry) (told : Result Account Fault) (replies : List Reply) : Type 0 where
+pub record CaseLaw (b : Meaning) (ls : List Layer) (es : List Entry) (told : Result Account Fault) (replies : List (Result (Option Estimate) Fault)) : Type 0 where
   pub pile : PileLaw b ls told
   -- the ledger at the end is that of all calls
   pub ledger : (a : Account) → told ≡ Ok a → a.ledger ≡ ledger_after a.pile es

@@ -1,5 +1,5 @@
 -- What a case gives: its pile and its ledger, and the replies to its calls.
-use Rattle.std.specs.Prelude.{ℕ, cond, List, ◌++◌, length, drop, Ok, Err, Result, nat_le}
+use Rattle.std.specs.Prelude.{ℕ, cond, List, ◌++◌, length, drop, Ok, Err, Option, Result, nat_le}
 use Rattle.rules.specs.Faults.{carried}
 use Rattle.rules.specs.Meaning.{Meaning}
 use Rattle.rules.specs.Tables.{told}
@@ -11,7 +11,7 @@ use Rattle.layers.specs.Layers.{piling}
 use Rattle.layers.specs.declared.layer.Layer.{Layer}
 use Rattle.runs.specs.Ledger.{Entry, Ledger}
 use Rattle.runs.specs.Recorded.{ledger_of}
-use Rattle.runs.specs.declared.call.Reply.{Reply}
+use Rattle.runs.specs.declared.estimate.Estimate.{Estimate}
 use Rattle.runs.specs.declared.run.Run.{Run}
 use Rattle.claims.specs.Histories.{ledger_after, replies_to}
 
@@ -34,6 +34,6 @@ replayed b ls es places =
     (λ m. cond (nat_le (length es) places) (Ok (record { pile = m; ledger = ledger_after m es })) (Err (too_few_places es)))
 
 -- the places afterwards: the replies, and what stood beyond them; as they were where the case is refused
-abbrev pub replies_left : Result Account Fault → List Entry → List Reply → List Reply
+abbrev pub replies_left : Result Account Fault → List Entry → List (Result (Option Estimate) Fault) → List (Result (Option Estimate) Fault)
 replies_left (Ok a) es before = replies_to a.pile es ++ drop (length es) before
 replies_left (Err f) es before = before

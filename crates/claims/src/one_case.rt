@@ -20,12 +20,14 @@ pub struct Case<'a, B, S> {
 }
 
 // Performs the calls one after the other; there is a place for each reply.
+// `battenlime` above has this loop over other types of call and of reply: one function for both would be a trait of two ghost members, longer than this.
 fn perform_all<S: Source>(run: &mut Run<Table>, calls: &[Call<S>], replies: &mut [Reply])
     requires { length calls.now ≤ length replies.old }
     ensures ledger { ledger_of run.new ≡ ledger_from (told run.old.rule) (ledger_of run.old) (map (entry_of S.Source.meaning) calls.now) }
     ensures rule { run.new.rule ≡ run.old.rule }
     ensures replies { replies.new ≡ replies_from (told run.old.rule) (ledger_of run.old) (map (entry_of S.Source.meaning) calls.now) ++ drop (length calls.now) replies.old }
 {
+    // tried `replies.iter_mut().zip(calls)`, after which a proof knows nothing of what the places hold
     for (index, call) in calls.iter().enumerate() {
         replies[index] = run.perform(call);
     }
@@ -47,11 +49,7 @@ pub fn replay<B: Rule + Drop, S: Source>(
     } = case;
     let rule = pile(bottom, layers)?;
     if replies.len() < calls.len() {
-        return Err(Fault {
-            cause: Cause::BufferShort,
-            layer: Origin::Output,
-            place: calls.len(),
-        });
+        return Err(Origin::Output.fault(Cause::BufferShort, calls.len()));
     }
     let mut run = Run::new(rule);
     perform_all(&mut run, calls, replies);

@@ -6,7 +6,7 @@ mod tests {
     use claims::{Case, Settlement, replay, settle};
     use layers::Layer;
     use rules::{BuiltIn, Cause, Fault, Origin};
-    use runs::{Call, Reply, Verdict};
+    use runs::{Call, Estimate, Reply, Verdict};
     use sources::{Either, Polynomial, StepTable};
     use std::process::Abort;
     use std::test::Fail;
@@ -15,30 +15,36 @@ mod tests {
     type Load = Either<Polynomial, StepTable>;
 
     // What the tested places hold before a case, to see which of them it wrote.
-    const GUARD: Reply = Reply::Refused(Fault {
+    const GUARD: Reply = Err(Fault {
         cause: Cause::NotOffered,
         layer: Origin::Order,
         place: 77,
     });
 
-    fn names(
+    // A refusal is compared by its number and name, since a report prints these.
+    // Other crates of tests have the like: a crate for a few lines would stand below them all.
+    fn refused<T: Drop>(
         rt: &impl Abort,
-        fault: Fault,
+        reply: Result<T, Fault>,
         number: u8,
         layer: &str,
         place: usize,
     ) -> Result<(), Fail> {
+        let Err(fault) = reply else {
+            return Err(Fail::new("not refused"));
+        };
         assert_eq!(rt; fault.cause.number(), number);
         assert_eq!(rt; fault.layer.name(), layer);
         assert_eq!(rt; fault.place, place);
         Ok(())
     }
 
-    fn done(reply: Reply) -> Result<(), Fail> {
-        match reply {
-            Reply::Done => Ok(()),
-            _ => Err(Fail::new("not done")),
+    // The replies to changes that are made.
+    fn done(rt: &impl Abort, replies: &[Reply]) -> Result<(), Fail> {
+        for reply in replies {
+            assert_eq!(rt; *reply, Ok(None));
         }
+        Ok(())
     }
 
     fn told(
@@ -48,30 +54,23 @@ mod tests {
         radius: i64,
         degree: usize,
     ) -> Result<(), Fail> {
-        match reply {
-            Reply::Result(estimate) => {
-                assert_eq!(rt; estimate.value.0, value.0);
-                assert_eq!(rt; estimate.value.1, value.1);
-                assert_eq!(rt; estimate.radius, radius);
-                assert_eq!(rt; estimate.degree, degree);
-                Ok(())
-            }
-            _ => Err(Fail::new("no result")),
-        }
+        let told = Estimate {
+            value,
+            radius,
+            degree,
+        };
+        assert_eq!(rt; reply, Ok(Some(told)));
+        Ok(())
     }
 
     fn untouched(rt: &impl Abort, reply: Reply) -> Result<(), Fail> {
-        match reply {
-            Reply::Refused(fault) => names(rt, fault, 24, "ORDER", 77),
-            _ => Err(Fail::new("written")),
-        }
+        refused(rt, reply, 24, "ORDER", 77)
     }
 
     fn is_apart(settled: &Settlement) -> Result<bool, Fail> {
-        match &settled.verdict {
-            Some(Ok(Verdict::Apart)) => Ok(true),
-            Some(Ok(Verdict::Meet)) => Ok(false),
-            _ => Err(Fail::new("no verdict")),
+        match settled.verdict {
+            Some(verdict) => Ok(verdict? == Verdict::Apart),
+            None => Err(Fail::new("no verdict")),
         }
     }
 
@@ -82,9 +81,9 @@ mod tests {
         layer: &str,
         place: usize,
     ) -> Result<(), Fail> {
-        match &settled.verdict {
-            Some(Err(fault)) => names(rt, *fault, number, layer, place),
-            _ => Err(Fail::new("not refused")),
+        match settled.verdict {
+            Some(verdict) => refused(rt, verdict, number, layer, place),
+            None => Err(Fail::new("no verdict")),
         }
     }
 
@@ -144,13 +143,9 @@ mod tests {
         let mut ones = [GUARD; 4];
         let mut others = [GUARD; 7];
         let settled = beam(8, &mut ones, &mut others)?;
-        for reply in &ones[0..3] {
-            done(*reply)?;
-        }
+        done(&rt, &ones[0..3])?;
         told(&rt, ones[3], (384, 6), 24, 3)?;
-        for reply in &others[0..6] {
-            done(*reply)?;
-        }
+        done(&rt, &others[0..6])?;
         told(&rt, others[6], (2880, 45), 180, 5)?;
         assert!(rt; !is_apart(&settled)?);
         Ok(())
@@ -181,10 +176,7 @@ mod tests {
     fn one_place_too_few(rt: HostRuntime) -> Result<(), Fail> {
         let calls = [enter(0, 0), enter(1, 1), enter(2, 4)];
         let mut replies = [GUARD; 2];
-        match replay(simpson(&calls), &mut replies) {
-            Ok(_) => return Err(Fail::new("not refused")),
-            Err(fault) => names(&rt, fault, 23, "OUTPUT", 3)?,
-        }
+        refused(&rt, replay(simpson(&calls), &mut replies), 23, "OUTPUT", 3)?;
         for reply in &replies {
             untouched(&rt, *reply)?;
         }
@@ -202,15 +194,11 @@ mod tests {
         let mut ones = [GUARD; 4];
         let mut others = [GUARD; 4];
         let settled = settle(case, &mut ones, simpson(&calls), &mut others);
-        match &settled.first {
-            Ok(_) => return Err(Fail::new("not refused")),
-            Err(fault) => names(&rt, *fault, 6, "LAYER", 2)?,
-        }
-        untouched(&rt, ones[0])?;
         assert!(rt; settled.second.is_ok());
-        told(&rt, others[3], (8, 3), 0, 3)?;
         assert!(rt; settled.verdict.is_none());
-        Ok(())
+        refused(&rt, settled.first, 6, "LAYER", 2)?;
+        untouched(&rt, ones[0])?;
+        told(&rt, others[3], (8, 3), 0, 3)
     }
 
     #[test]
@@ -224,10 +212,7 @@ mod tests {
         let mut ones = [GUARD; 3];
         let mut others = [GUARD; 3];
         let settled = settle(case, &mut ones, simpson(&calls), &mut others);
-        match ones[2] {
-            Reply::Refused(fault) => names(&rt, fault, 18, "RUN", 2)?,
-            _ => return Err(Fail::new("not refused")),
-        }
+        refused(&rt, ones[2], 18, "RUN", 2)?;
         no_verdict(&rt, &settled, 22, "RUN", 0)
     }
 

@@ -1,62 +1,88 @@
 -- Steps of the loops that fill an array of weights.
-use Rattle.std.proofs.Common.{◌≡◌, ℕ, zero, suc, ◌+◌, ◌-◌, ◌*◌, ◌/◌, ◌%◌, ◌^◌, ◌<◌, ◌≤◌, true, cond, eqb, ltb, leb, List, length, get_or, set, replicate, ℤ, pos, negsuc, ◌+ℤ◌, ◌*ℤ◌, nat_abs, sym, ap, ◌∙◌, ⊎_elim, mul-le-mul_right, mul-le-mul, mul-le-mul_left, div-le_self, add-one, arith, length-set, get_or-set_other, get_or-set_same}
-use native.Mathlib.Nat.{div-add-mod, zero-div}
+use Rattle.std.proofs.Common.{◌≡◌, ℕ, zero, suc, ◌+◌, ◌-◌, ◌*◌, ◌/◌, ◌%◌, ◌^◌, ◌<◌, ◌≤◌, true, cond, eqb, ltb, leb, List, ◌++◌, length, get_or, drop, set, replicate, ℤ, pos, ◌+ℤ◌, ◌*ℤ◌, nat_abs, sym, ap, ◌∙◌, ⊎_elim, mul-le-mul_right, mul-le-mul, mul-le-mul_left, add-one, arith, length-set, get_or-set_other, get_or-set_same}
+use native.Mathlib.Nat.{div-add-mod}
 use lib.IntN.{+ℤ_idr}
-use lib.Signed.{quot_z}
 use lib.ListN.{length-replicate}
 use Rattle.std.proofs.lemmas.Bool.{cases_eq, cases_lt, cond-true, cond-false, cond_both, lt-ltb, le-ltb}
 use Rattle.std.proofs.lemmas.Bool.Decides.{nat_tests}
-use Rattle.std.proofs.lemmas.List.{get_or_past, get_or-replicate}
-use borrow.Author.Differences.{ints, quot_is}
+use Rattle.std.proofs.lemmas.List.{get_or-append_right, get_or-drop}
+use borrow.Author.Differences.{ints}
 use Rattle.algebra.specs.Sums.{sum}
-use Rattle.algebra.specs.Weights.{shifted, panel_weight, stretch_weight}
+use Rattle.algebra.specs.Weights.{ZeroBeyond, shifted, panel_weight, stretch_weight}
 use Rattle.algebra.proofs.Sums.{sum_none, sum_more}
 use Rattle.algebra.proofs.Absolute.{abs_mul}
 use Rattle.algebra.proofs.Rows.{shifted_from, shifted_below, stretch_at, stretch_off}
+use borrow.Rule.Slice.PartMut.{mid_of, put_mid}
+use Rattle.std.proofs.lemmas.List.{get_or-take}
+use Rattle.std.proofs.lemmas.List.Edits.{get_or-between}
+use Rattle.std.proofs.lemmas.Slice.{take-put_mid_below, between-put_mid, drop-put_mid}
+use Rattle.rules.proofs.Loading.{zeros}
 use Rattle.layers.specs.Filled.{Holds}
 
--- a panel that begins at `first` is added up to its station u
-abbrev pub Added : List ℤ → (ℕ → ℤ) → (ℕ → ℤ) → ℕ → ℕ → Type 0
-Added ws e W first u = (s : ℕ) → get_or ws s (pos 0) ≡ cond (ltb s (first + u)) (e s +ℤ shifted W first s) (e s)
+-- the weights of a panel are added to the first u entries
+abbrev pub Added : List ℤ → (ℕ → ℤ) → (ℕ → ℤ) → ℕ → Type 0
+Added ws e W u = (s : ℕ) → get_or ws s (pos 0) ≡ cond (ltb s u) (e s +ℤ W s) (e s)
 
-pub added_none : (ws : List ℤ) (W : ℕ → ℤ) (first : ℕ) → Added ws (λ s. get_or ws s (pos 0)) W first 0
-added_none ws W first s =
-    ⊎_elim
-    (λ lt. sym (+ℤ_idr _) ∙ ap (λ t. get_or ws s (pos 0) +ℤ t) (sym (shifted_below W first s lt)) ∙ sym (cond-true _ _ _ (lt-ltb s (first + 0) (omega arith))))
-    (λ ge. sym (cond-false _ _ _ (le-ltb s (first + 0) (omega arith)))) (cases_lt s first)
+-- the entry that comes next is still as it was
+pub added_here : (ws : List ℤ) (e W : ℕ → ℤ) (u : ℕ) → Added ws e W u → get_or ws u (pos 0) ≡ e u
+added_here ws e W u h = h u ∙ cond-false _ _ _ (le-ltb u u (omega arith))
 
--- the station that comes next is still as it was
-pub added_here : (ws : List ℤ) (e W : ℕ → ℤ) (first u : ℕ) → Added ws e W first u → get_or ws (first + u) (pos 0) ≡ e (first + u)
-added_here ws e W first u h = h (first + u) ∙ cond-false _ _ _ (le-ltb (first + u) (first + u) (omega arith))
-
-pub added_more : (ws : List ℤ) (e W : ℕ → ℤ) (first u : ℕ) (w : ℤ) → first + u < length ws → w ≡ get_or ws (first + u) (pos 0) +ℤ W u → Added ws e W first u → Added (set ws (first + u) w) e W first (u + 1)
-added_more ws e W first u w lt is h s =
+pub added_more : (ws : List ℤ) (e W : ℕ → ℤ) (u : ℕ) (w : ℤ) → u < length ws → w ≡ get_or ws u (pos 0) +ℤ W u → Added ws e W u → Added (set ws u w) e W (u + 1)
+added_more ws e W u w lt is h s =
     ⊎_elim
     (λ eq.
-    let back : s - first ≡ u = omega arith in
-    let le : first ≤ s = omega arith in
-    let test : ltb s (first + (u + 1)) ≡ true = lt-ltb s (first + (u + 1)) (omega arith) in
-    let here : w ≡ e s +ℤ shifted W first s =
-    is ∙ ap (λ t. t +ℤ W u) (added_here ws e W first u h ∙ ap e (sym eq)) ∙ ap (λ t. e s +ℤ t) (ap W (sym back) ∙ sym (shifted_from W first s le)) in
-    ap (λ t. get_or (set ws (first + u) w) t (pos 0)) eq ∙ get_or-set_same ws (first + u) w (pos 0) lt ∙ here ∙ sym (cond-true _ _ _ test))
+    let here : w ≡ e s +ℤ W s = is ∙ ap (λ t. t +ℤ W u) (added_here ws e W u h) ∙ ap (λ t. e t +ℤ W t) (sym eq) in
+    ap (λ t. get_or (set ws u w) t (pos 0)) eq ∙ get_or-set_same ws u w (pos 0) lt ∙ here ∙ sym (cond-true _ _ _ (lt-ltb s (u + 1) (omega arith))))
     (λ ne.
-    let same : ltb s (first + u) ≡ ltb s (first + (u + 1)) = grind (arith, nat_tests) in
-    get_or-set_other ws (first + u) s w (pos 0) ne ∙ h s ∙ ap (λ t. cond t (e s +ℤ shifted W first s) (e s)) same)
-    (cases_eq s (first + u))
+    let same : ltb s u ≡ ltb s (u + 1) = grind (arith, nat_tests) in
+    get_or-set_other ws u s w (pos 0) ne ∙ h s ∙ ap (λ t. cond t (e s +ℤ W s) (e s)) same)
+    (cases_eq s u)
 
-pub added_all : (ws : List ℤ) (e W : ℕ → ℤ) (first n : ℕ) → ((s : ℕ) → n ≤ s → W s ≡ pos 0) → Added ws e W first n → (s : ℕ) → get_or ws s (pos 0) ≡ e s +ℤ shifted W first s
-added_all ws e W first n z h s =
-    ⊎_elim (λ lt. h s ∙ cond-true _ _ _ (lt-ltb s (first + n) lt))
-    (λ ge.
-    let le : first ≤ s = omega arith in
-    let zero : shifted W first s ≡ pos 0 = shifted_from W first s le ∙ z (s - first) (omega arith) in
-    h s ∙ cond-false _ _ _ (le-ltb s (first + n) ge) ∙ sym (+ℤ_idr (e s)) ∙ ap (λ t. e s +ℤ t) (sym zero))
-    (cases_lt s (first + n))
+-- a part of a row from `first` on, k long, to which the weights of a panel are added
+module _ (old part : List ℤ) (first k : ℕ) (within : first + k ≤ length old) (length-part : length part ≡ k) where
+  row : List ℤ
+  row = put_mid first k old part
 
--- an array of zeros
-pub zeros : (n s : ℕ) → get_or (replicate n (pos 0)) s (pos 0) ≡ pos 0
-zeros n s =
-    ⊎_elim (λ lt. get_or-replicate n s (pos 0) (pos 0) lt) (λ ge. get_or_past _ s (pos 0) (simp length-replicate ge)) (cases_lt s n)
+  before_part : (s : ℕ) → s < first → get_or row s (pos 0) ≡ get_or old s (pos 0)
+  unfolding row
+  before_part s lt =
+      sym (get_or-take first row s (pos 0) lt) ∙ ap (λ l. get_or l s (pos 0)) (take-put_mid_below first k old part first (omega arith) (omega arith))
+      ∙ get_or-take first old s (pos 0) lt
+
+  in_part : (s : ℕ) → first ≤ s → s < first + k → get_or row s (pos 0) ≡ get_or part (s - first) (pos 0)
+  unfolding row
+  in_part s ge lt =
+      let at : first + (s - first) ≡ s = omega arith in
+      ap (λ t. get_or row t (pos 0)) (sym at) ∙ sym (get_or-between row first (first + k) (s - first) (pos 0) (omega arith))
+      ∙ ap (λ l. get_or l (s - first) (pos 0)) (between-put_mid first k old part (first + k) (omega arith) (omega arith))
+
+  past_part : (s : ℕ) → first + k ≤ s → get_or row s (pos 0) ≡ get_or old s (pos 0)
+  unfolding row
+  past_part s ge =
+      let at : first + k + (s - (first + k)) ≡ s = omega arith in
+      ap (λ t. get_or row t (pos 0)) (sym at) ∙ sym (get_or-drop (first + k) row (s - (first + k)) (pos 0))
+      ∙ ap (λ l. get_or l (s - (first + k)) (pos 0)) (drop-put_mid first k old part (first + k) (omega arith) (omega arith) length-part)
+      ∙ get_or-drop (first + k) old (s - (first + k)) (pos 0) ∙ ap (λ t. get_or old t (pos 0)) at
+
+  pub was_there : (s : ℕ) → s < k → get_or (mid_of first k old) s (pos 0) ≡ get_or old (first + s) (pos 0)
+  was_there s lt = get_or-take k (drop first old) s (pos 0) lt ∙ get_or-drop first old s (pos 0)
+
+  pub panel_added : (W : ℕ → ℤ) (u : ℕ) → k ≤ u → ((s : ℕ) → k ≤ s → W s ≡ pos 0) → Added part (λ s. get_or (mid_of first k old) s (pos 0)) W u → Holds (put_mid first k old part) (λ s. get_or old s (pos 0) +ℤ shifted W first s)
+  unfolding row
+  panel_added W u done none h s =
+      ⊎_elim (λ lt. before_part s lt ∙ sym (+ℤ_idr _) ∙ ap (λ t. get_or old s (pos 0) +ℤ t) (sym (shifted_below W first s lt)))
+      (λ ge.
+      ⊎_elim
+      (λ lt.
+      let at : first + (s - first) ≡ s = omega arith in
+      in_part s ge lt ∙ h (s - first) ∙ cond-true _ _ _ (lt-ltb (s - first) u (omega arith))
+      ∙ ap (λ t. t +ℤ W (s - first)) (was_there (s - first) (omega arith) ∙ ap (λ t. get_or old t (pos 0)) at)
+      ∙ ap (λ t. get_or old s (pos 0) +ℤ t) (sym (shifted_from W first s ge)))
+      (λ past.
+      past_part s past ∙ sym (+ℤ_idr _)
+      ∙ ap (λ t. get_or old s (pos 0) +ℤ t) (sym (shifted_from W first s ge ∙ none (s - first) (omega arith))))
+      (cases_lt s (first + k)))
+      (cases_lt s first)
 
 pub panels_none : (L : ℕ) (W : ℕ → ℤ) → Holds (replicate 1025 (pos 0)) (panel_weight 0 L W)
 panels_none L W s = zeros 1025 s ∙ sym (sum_none _)
@@ -77,10 +103,6 @@ pub panels_bound : (ws : List ℤ) (m L : ℕ) (W : ℕ → ℤ) → m ≤ 1024 
 panels_bound ws m L W few b h s =
     omega (arith, ap nat_abs (h s), sum_bound m (2 ^ 40) (λ j. shifted W (j * L) s) (λ j. shifted_bound W (2 ^ 40) (j * L) s b), mul-le-mul_right (2 ^ 40) few)
 
--- a panel before the last ends within the last
-pub panel_ends : (j m L : ℕ) → j < m → j * L + L ≤ m * L
-panel_ends j m L lt = omega (arith, mul-le-mul_right L lt)
-
 pub few_panels : (m L : ℕ) → 1 ≤ L → m * L ≤ 1024 → m ≤ 1024
 few_panels m L h k = omega (arith, mul-le-mul_left m h)
 
@@ -92,25 +114,21 @@ pub filled_none : (f : ℕ → ℤ) → Filled (replicate 1025 (pos 0)) 0 f
 filled_none f =
     (λ s. zeros 1025 s ∙ sym (cond-false _ _ _ (le-ltb s 0 (omega arith))), length-replicate 1025 (pos 0))
 
-pub filled_more : (ws : List ℤ) (n : ℕ) (f : ℕ → ℤ) (w : ℤ) → n < 1025 → w ≡ f n → Filled ws n f → Filled (set ws n w) (n + 1) f
-filled_more ws n f w lt is h = (
-  λ s.
-      ⊎_elim
-      (λ eq.
-      let test : ltb s (n + 1) ≡ true = lt-ltb s (n + 1) (omega arith) in
-      let within : n < length ws = omega (arith, h.1) in
-      ap (λ t. get_or (set ws n w) t (pos 0)) eq ∙ get_or-set_same ws n w (pos 0) within ∙ is ∙ ap f (sym eq) ∙ sym (cond-true _ _ _ test))
-      (λ ne.
-      let same : ltb s n ≡ ltb s (n + 1) = grind (arith, nat_tests) in
-      get_or-set_other ws n s w (pos 0) ne ∙ h.0 s ∙ ap (λ t. cond t (f s) (pos 0)) same)
-      (cases_eq s n),
-  length-set ws n w ∙ h.1,
-)
-
 pub filled_all : (ws : List ℤ) (n : ℕ) (f : ℕ → ℤ) → ((s : ℕ) → n ≤ s → f s ≡ pos 0) → Filled ws n f → Holds ws f
 filled_all ws n f z h s =
     ⊎_elim (λ lt. h.0 s ∙ cond-true _ _ _ (lt-ltb s n lt)) (λ ge. h.0 s ∙ cond-false _ _ _ (le-ltb s n ge) ∙ sym (z s ge))
     (cases_lt s n)
+
+-- the first entries of an array of zeros, written anew
+module _ (front : List ℤ) (last : ℕ) (length-front : length front ≡ last + 1) where
+  pub zero_beyond : (s : ℕ) → last < s → get_or (front ++ drop (last + 1) (replicate 1025 (pos 0))) s (pos 0) ≡ pos 0
+  zero_beyond s lt =
+      get_or-append_right front (drop (last + 1) (replicate 1025 (pos 0))) (last + 1) s (pos 0) length-front (omega arith)
+      ∙ get_or-drop (last + 1) (replicate 1025 (pos 0)) (s - (last + 1)) (pos 0) ∙ zeros 1025 (last + 1 + (s - (last + 1)))
+
+-- an array that is a row up to its last station, and 0 beyond as the row is
+pub holds_row : (ws : List ℤ) (f : ℕ → ℤ) (last L : ℕ) → last ≡ L → ((s : ℕ) → s ≤ last → get_or ws s (pos 0) ≡ f s) → ((s : ℕ) → last < s → get_or ws s (pos 0) ≡ pos 0) → ZeroBeyond L f → Holds ws f
+holds_row ws f last L is told beyond none s = ⊎_elim (λ lt. beyond s lt ∙ sym (none s (omega arith))) (λ ge. told s ge) (cases_lt last s)
 
 -- a product with a small count
 pub scaled_bound : (k b c : ℕ) (x : ℤ) → k ≤ c → nat_abs x ≤ b → nat_abs (pos k *ℤ x) ≤ c * b
@@ -120,12 +138,6 @@ pub stretch_bound : (k b : ℕ) (W : ℕ → ℤ) (s : ℕ) → ((i : ℕ) → n
 stretch_bound k b W s h =
     cond_both (eqb (s % k) 0) (pos k *ℤ W (s / k)) (pos 0) (λ t. nat_abs t ≤ k * b)
     (λ _. scaled_bound k b k (W (s / k)) (omega arith) (h (s / k))) (λ _. omega arith)
-
--- a quotient is no larger
-pub quotient_bound : (x : ℤ) (k b : ℕ) → nat_abs x ≤ b → nat_abs (quot_z x (pos k)) ≤ b
-quotient_bound (pos n) k b h = omega (arith, div-le_self n k)
-quotient_bound (negsuc n) k b h =
-    omega (arith, ints, quot_is (negsuc n) k, div-le_self (suc n) k, zero-div k)
 
 -- no multiple of k stands between two that follow each other
 between_multiples : (k u s : ℕ) → k * u < s → s < k * (u + 1) → s % k ≡ 0 → ⊥

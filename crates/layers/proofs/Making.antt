@@ -1,10 +1,8 @@
 -- From the sizes and the weights of a layer to its meaning.
-use Rattle.std.proofs.Common.{◌≡◌, ℕ, suc, ◌*◌, ◌<◌, ◌≤◌, Bool, true, false, eqb, ltb, List, get_or, ℤ, pos, Some, None, Ok, Err, Option, Result, sym, refl, ap, ◌∙◌, subst, mul-le-mul_left, arith}
+use Rattle.std.proofs.Common.{◌≡◌, ℕ, suc, Bool, List, get_or, ℤ, pos, Some, None, Ok, Err, Option, Result, sym, refl, ap, ◌∙◌, subst}
 use Rattle.rules.specs.Meaning.{Meaning, Sound, telling}
 use Rattle.rules.specs.declared.fault.Fault.{Fault}
 use Rattle.rules.specs.declared.fault.Cause.{Cause}
-use Rattle.rules.specs.declared.fault.Cause.TheVariants.{SpanLimit}
-use Rattle.std.proofs.lemmas.Bool.{cond-false, cond-true, lt-ltb, ne_eqb}
 use Rattle.layers.specs.Filled.{Holds}
 use Rattle.layers.specs.Layers.{accepted_or, at_place, made, making, refusal}
 use Rattle.layers.specs.Sizing.{sizes_of, sizing}
@@ -63,13 +61,6 @@ module _ (l : Layer) (p : ℕ) (r : Meaning) (z : Sizes) (ws : List ℤ) (y : Bo
 
   pub table_made : (t : Meaning) → t ≡ telling z.span z.denominator z.degree y z.ceiling (λ s. get_or ws s (pos 0)) → ◌≡◌ {A = Result Meaning Fault} (Ok t) (making l p r)
   table_made t e = ap (λ m. Ok m) (e ∙ tells) ∙ sym (making_accepted l p r (sizing_ok l p r z ok).0)
-
--- more panels than stations
-pub too_many : (m p : ℕ) (r : Meaning) → 1 ≤ r.span → 1024 < m → sizing (Panels m) p r ≡ Err (at_place p SpanLimit)
-too_many m p r one many =
-    let some : eqb m 0 ≡ false = ne_eqb m 0 (λ e. omega arith) in
-    let long : ltb 1024 (m * r.span) ≡ true = lt-ltb 1024 (m * r.span) (omega (arith, mul-le-mul_left m one)) in
-    ap (λ o. accepted_or o (Ok (sizes_of (made (Panels m) r))) (λ e. Err (at_place p e))) (cond-false _ _ _ some ∙ cond-true _ _ _ long)
 
 -- the same for the rule itself, which nothing refuses
 pub tells_sound : (m : Meaning) (z : Sizes) (ws : List ℤ) (y : Bool) → Sound m → z ≡ sizes_of m → y ≡ m.symmetric → Holds ws m.weighting.weight → Sound (telling z.span z.denominator z.degree y z.ceiling (λ s. get_or ws s (pos 0)))

@@ -1,6 +1,5 @@
 -- Steps of a loop over a list of layers.
-use Rattle.std.proofs.Common.{◌≡◌, ℕ, ◌+◌, ◌<◌, ◌≤◌, List, ◌∷◌, length, get_or, drop, Some, None, Option, Ok, Err, Result, sym, refl, ap, ◌∙◌, add-one, drop-cons}
-use Rattle.std.proofs.lemmas.List.{drop_all}
+use Rattle.std.proofs.Common.{◌≡◌, ℕ, ◌+◌, ◌<◌, List, ◌∷◌, length, get_or, drop, Some, None, Option, Ok, Err, Result, sym, refl, ap, ◌∙◌, add-one, drop-cons}
 use Rattle.rules.specs.Faults.{carried}
 use Rattle.rules.specs.Meaning.{Meaning}
 use Rattle.rules.specs.declared.fault.Cause.{Cause}
@@ -26,12 +25,6 @@ module _ (ls : List Layer) (i : ℕ) (d : Layer) (t : Meaning) where
   pub piling_more : (m : Meaning) → i < length ls → ◌≡◌ {A = Result Meaning Fault} (Ok m) (making (get_or ls i d) (i + 1) t) → piling (drop (i + 1) ls) (i + 1 + 1) m ≡ piling (drop i ls) (i + 1) t
   piling_more m h e = ap (λ r. carried r (λ n. piling (drop (i + 1) ls) (i + 1 + 1) n)) e ∙ sym (next h)
 
-  pub piling_refused : (e : Fault) → i < length ls → ◌≡◌ {A = Result Meaning Fault} (Err e) (making (get_or ls i d) (i + 1) t) → ◌≡◌ {A = Result Meaning Fault} (Err e) (piling (drop i ls) (i + 1) t)
-  piling_refused e h q = ap (λ r. carried r (λ n. piling (drop (i + 1) ls) (i + 1 + 1) n)) q ∙ sym (next h)
-
-  pub piling_all : length ls ≤ i → ◌≡◌ {A = Result Meaning Fault} (Ok t) (piling (drop i ls) (i + 1) t)
-  piling_all h = sym (ap (λ xs. piling xs (i + 1) t) (drop_all i ls h))
-
   -- the same of the rule that is reached
   next_reached : i < length ls → reached (drop i ls) t ≡ accepted_or (refusal (get_or ls i d) t) (reached (drop (i + 1) ls) (made (get_or ls i d) t)) (λ _. t)
   next_reached h = ap (λ xs. reached xs t) (drop-cons ls i d h ∙ ap (λ n. get_or ls i d ∷ drop n ls) (sym (add-one i)))
@@ -44,6 +37,3 @@ module _ (ls : List Layer) (i : ℕ) (d : Layer) (t : Meaning) where
   reached_refused f h e =
       layer_refused (refusal (get_or ls i d) t) (i + 1) (made (get_or ls i d) t) t (reached (drop (i + 1) ls) (made (get_or ls i d) t)) f e ∙
       sym (next_reached h)
-
-  pub reached_all : length ls ≤ i → t ≡ reached (drop i ls) t
-  reached_all h = sym (ap (λ xs. reached xs t) (drop_all i ls h))

@@ -1,5 +1,5 @@
 // What can be laid on a rule.
-#[derive(Clone, Copy, Debug)]
+#[derive(Clone, Copy, PartialEq, Eq, Debug, Default)]
 pub enum Layer {
     // so many copies side by side
     Panels(usize),
@@ -9,6 +9,7 @@ pub enum Layer {
     Mirror,
     // Richardson: two half-length panels against one, so that the leading error cancels
     Refinement,
-    // weights and denominator divided by their greatest common divisor
+    // weights and denominator divided by their greatest common divisor; an unused place of a list with room for more holds it
+    #[default]
     LowestTerms,
 }

@@ -10,5 +10,6 @@ mod on_table;
 mod sizes;
 
 pub use layer::Layer;
-pub use laying::{lowest_terms, mirror, panels, pile, refine, stretch};
-pub use on_table::{lay, table_of};
+pub use laying::{panels, refine, stretch};
+pub use make::{lowest_terms, mirror};
+pub use on_table::{lay, pile, table_of};

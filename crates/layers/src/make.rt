@@ -1,27 +1,28 @@
-// The making of each layer at its place in a pile.
-ghost use Rattle.std.specs.Prelude.{◌≡◌, ◌+◌, ◌≤◌, if◌then◌else◌};
+// The making of each layer, with its place in a pile where it can be refused.
+ghost use Rattle.std.specs.Prelude.{◌≡◌, suc, ◌+◌, ◌≤◌, if◌then◌else◌};
 ghost use Rattle.std.specs.Result.{result_map_both};
+ghost use Rattle.algebra.specs.Divisors.{Greatest};
 ghost use Rattle.rules.specs.Tables.{told as told_by};
-ghost use Rattle.layers.specs.Layers.{factor as factor_of, making, mirrored, reduced};
-ghost use Rattle.layers.specs.Sizing.{divided_sizes, sizes_of, sizing};
+ghost use Rattle.layers.specs.Layers.{divisor_of, factor as factor_of, making, mirrored, reduced};
+ghost use Rattle.layers.specs.Sizing.{divided_sizes, sizing};
 
 use crate::divisor::divisor;
 use crate::fill::{
     mirror_weights, panel_weights, reduce_weights, refine_weights, same_weights, stretch_weights,
 };
 use crate::layer::Layer;
-use crate::sizes::{SPAN_LIMIT, Sizes, refused};
-use rules::{Cause, Fault, Rule, Table};
+use crate::sizes::{SPAN_LIMIT, Sizes};
+use rules::{Cause, Fault, Origin, Rule, Table};
 
 // The refinement factors for the degrees 0 to 10.
 const FACTORS: [u64; 11] = [2, 4, 8, 16, 32, 64, 128, 256, 512, 1024, 2048];
 
-// The refinement factor of a degree, 0 where there is none.
+// The refinement factor of a degree. Above 10 it is 0, as its definition is total; a refinement there is refused for its degree in any case.
 fn factor(degree: usize) -> u64
     ensures value { result ≡ factor_of degree }
     ensures bound { result ≤ 2048 }
 {
-    if degree < 11 { FACTORS[degree] } else { 0 }
+    FACTORS.get(degree).copied().unwrap_or(0)
 }
 
 // The degree of a refinement: two more over a symmetric rule, one more over any other.
@@ -37,17 +38,16 @@ fn multiplied<R: Rule>(below: &R, count: usize, place: usize) -> Result<Sizes, F
     ensures { result ≡ sizing (Layer.Panels count) place (R.meaning below.now) }
 {
     if count == 0 {
-        return Err(refused(Cause::CountZero, place));
+        return Err(Origin::Layer.fault(Cause::CountZero, place));
     }
     // a span is at least 1
     if count > SPAN_LIMIT {
-        return Err(refused(Cause::SpanLimit, place));
+        return Err(Origin::Layer.fault(Cause::SpanLimit, place));
     }
     let sizes = Sizes {
         span: count * below.span(),
-        degree: below.degree(),
         ceiling: count as u64 * below.ceiling(),
-        denominator: below.denominator(),
+        ..Sizes::of(below)
     };
     sizes.admit(place)?;
     Ok(sizes)
@@ -69,28 +69,15 @@ fn doubled<R: Rule>(below: &R, place: usize) -> Result<Sizes, Fault>
     Ok(sizes)
 }
 
-// The sizes of the rule itself.
-fn unchanged<R: Rule>(below: &R) -> Sizes
-    ensures { result ≡ sizes_of (R.meaning below.now) }
-{
-    Sizes {
-        span: below.span(),
-        degree: below.degree(),
-        ceiling: below.ceiling(),
-        denominator: below.denominator(),
-    }
-}
-
 // The sizes of the rule in lowest terms.
 fn divided<R: Rule>(below: &R, divisor: u64) -> Sizes
     requires { 1 ≤ divisor }
     ensures { result ≡ divided_sizes divisor (R.meaning below.now) }
 {
     Sizes {
-        span: below.span(),
-        degree: below.degree(),
         ceiling: below.ceiling() / divisor,
         denominator: below.denominator() / divisor,
+        ..Sizes::of(below)
     }
 }
 
@@ -102,10 +89,10 @@ pub(crate) fn lay_panels<R: Rule + Drop>(
     ensures { result_map_both told_by (λ e. e) result ≡ making (Layer.Panels count) place (R.meaning below) }
 {
     let sizes = multiplied(&below, count, place)?;
-    let weights = panel_weights(&below, count);
-    Ok(sizes.table(below.is_symmetric(), weights))
+    Ok(sizes.table(below.is_symmetric(), panel_weights(&below, count)))
 }
 
+// No plainer as one with lay_panels: handed the filling as a closure, it would have to state what that fills, at more length than these two lines.
 pub(crate) fn lay_stretch<R: Rule + Drop>(
     below: R,
     count: usize,
@@ -114,8 +101,7 @@ pub(crate) fn lay_stretch<R: Rule + Drop>(
     ensures { result_map_both told_by (λ e. e) result ≡ making (Layer.Stretch count) place (R.meaning below) }
 {
     let sizes = multiplied(&below, count, place)?;
-    let weights = stretch_weights(&below, count);
-    Ok(sizes.table(below.is_symmetric(), weights))
+    Ok(sizes.table(below.is_symmetric(), stretch_weights(&below, count)))
 }
 
 pub(crate) fn lay_refinement<R: Rule + Drop>(below: R, place: usize) -> Result<Table, Fault>
@@ -126,32 +112,26 @@ pub(crate) fn lay_refinement<R: Rule + Drop>(below: R, place: usize) -> Result<T
     Ok(sizes.table(below.is_symmetric(), weights))
 }
 
-pub(crate) fn lay_mirror<R: Rule + Drop>(below: R) -> Table
+// A rule read from the other end; never refused.
+pub fn mirror<R: Rule + Drop>(below: R) -> Table
     ensures { told_by result ≡ mirrored (R.meaning below) }
 {
-    let weights = mirror_weights(&below);
-    unchanged(&below).table(below.is_symmetric(), weights)
+    Sizes::of(&below).table(below.is_symmetric(), mirror_weights(&below))
 }
 
-pub(crate) fn lay_lowest_terms<R: Rule + Drop>(below: R) -> Table
-    ensures { told_by result ≡ reduced (R.meaning below) }
+// A rule with weights and denominator in lowest terms; never refused. What they are divided by divides them all, and every common divisor divides it.
+pub fn lowest_terms<R: Rule + Drop>(below: R) -> Table
+    ensures value { told_by result ≡ reduced (R.meaning below) }
+    ensures greatest { Greatest (R.meaning below).weighting.denominator (suc (R.meaning below).span) (R.meaning below).weighting.weight (divisor_of (R.meaning below)) }
 {
     let divisor = divisor(&below);
     let weights = reduce_weights(&below, divisor);
     divided(&below, divisor).table(below.is_symmetric(), weights)
 }
 
-// The rule itself, as a table.
-pub(crate) fn tabled<R: Rule + Drop>(below: R) -> Table
-    ensures { told_by result ≡ R.meaning below }
-{
-    written_out(&below)
-}
-
 // A rule that stays where it is, written out as a table.
 pub(crate) fn written_out<R: Rule>(rule: &R) -> Table
     ensures { told_by result ≡ R.meaning rule.now }
 {
-    let weights = same_weights(rule);
-    unchanged(rule).table(rule.is_symmetric(), weights)
+    Sizes::of(rule).table(rule.is_symmetric(), same_weights(rule))
 }

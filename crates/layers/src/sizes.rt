@@ -3,8 +3,9 @@ ghost use Rattle.std.specs.Prelude.{◌≡◌, pos, slice_index_or};
 ghost use Rattle.rules.specs.Meaning.{Sound, telling};
 ghost use Rattle.rules.specs.Tables.{told as told_by};
 ghost use Rattle.layers.specs.Layers.{admission};
+ghost use Rattle.layers.specs.Sizing.{sizes_of};
 
-use rules::{Cause, Fault, Origin, Table};
+use rules::{Cause, Fault, Origin, Rule, Table};
 
 pub(crate) const SPAN_LIMIT: usize = 1024;
 
@@ -22,30 +23,31 @@ pub(crate) struct Sizes {
     pub(crate) denominator: u64,
 }
 
-// A refusal by a layer.
-pub(crate) fn refused(cause: Cause, place: usize) -> Fault
-    ensures { result ≡ record { cause = cause; layer = Origin.Layer; place = place } }
-{
-    Fault {
-        cause,
-        layer: Origin::Layer,
-        place,
-    }
-}
-
 impl Sizes {
+    // The sizes of a rule.
+    pub(crate) fn of<R: Rule>(rule: &R) -> Sizes
+        ensures { result ≡ sizes_of (R.meaning rule.now) }
+    {
+        Sizes {
+            span: rule.span(),
+            degree: rule.degree(),
+            ceiling: rule.ceiling(),
+            denominator: rule.denominator(),
+        }
+    }
+
     // Refused at `place` by the first check that fails.
     pub(crate) fn admit(self, place: usize) -> Result<(), Fault>
         ensures { result ≡ admission self.span self.degree self.ceiling self.denominator place }
     {
         if self.span > SPAN_LIMIT {
-            return Err(refused(Cause::SpanLimit, place));
+            return Err(Origin::Layer.fault(Cause::SpanLimit, place));
         }
         if self.degree > DEGREE_LIMIT {
-            return Err(refused(Cause::DegreeLimit, place));
+            return Err(Origin::Layer.fault(Cause::DegreeLimit, place));
         }
         if self.ceiling > CEILING_LIMIT || self.denominator > DENOMINATOR_LIMIT {
-            return Err(refused(Cause::SizeLimit, place));
+            return Err(Origin::Layer.fault(Cause::SizeLimit, place));
         }
         Ok(())
     }

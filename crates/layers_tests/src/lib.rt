@@ -154,9 +154,10 @@ mod tests {
         refusal(&rt, pile(Lopsided, &refused), 7, 20)
     }
 
-    fn refusal(
+    // Other crates of tests have the like: a crate for a few lines would stand below them all.
+    fn refusal<T: Drop>(
         rt: &impl Abort,
-        made: Result<Table, Fault>,
+        made: Result<T, Fault>,
         cause: u8,
         place: usize,
     ) -> Result<(), Fail> {
@@ -172,6 +173,8 @@ mod tests {
     }
 
     const REFINE: Layer = Layer::Refinement;
+
+    // Codes and causes are numbers here, as an order has them and a report prints them.
 
     // Layers on the built-in rule of a code, the sizes of the rule that they make, and the greatest common divisor of its denominator and weights.
     #[derive(Clone, Copy)]
@@ -194,7 +197,7 @@ mod tests {
 
     // The mirror image of a rule has its sizes and reads from the other end; in lowest terms it is divided by the divisor.
     fn turned(rt: &impl Abort, case: &Made) -> Result<(), Fail> {
-        let base = BuiltIn::from_code(case.code)?;
+        let base = BuiltIn::try_from(case.code)?;
         let rule = pile(base, case.layers)?;
         sized(rt, &rule, case);
         let image = mirror(pile(base, case.layers)?);
@@ -207,7 +210,8 @@ mod tests {
         );
         assert_eq!(rt; lowest.ceiling(), case.ceiling / case.divisor as u64);
         let span = rule.span();
-        for station in 0..span + 1 {
+        // by number, as a rule is asked
+        for station in 0..=span {
             let weight = rule.weight(station);
             assert_eq!(rt; image.weight(span - station), weight);
             assert_eq!(rt;
@@ -358,8 +362,9 @@ mod tests {
     // The built-in rules are in lowest terms.
     #[test]
     fn every_built_in_rule_turned(rt: HostRuntime) -> Result<(), Fail> {
-        for code in 1..11 {
-            let base = BuiltIn::from_code(code)?;
+        // by number, as an order has them
+        for code in 1..=10 {
+            let base = BuiltIn::try_from(code)?;
             turned(
                 &rt,
                 &Made {
@@ -534,7 +539,7 @@ mod tests {
 
     // The pile is refused at the place, and the layer alone at place 0.
     fn stopped(rt: &impl Abort, case: &Refused) -> Result<(), Fail> {
-        let base = BuiltIn::from_code(case.code)?;
+        let base = BuiltIn::try_from(case.code)?;
         refusal(rt, pile(base, case.layers), case.cause, case.place)?;
         assert!(rt; case.place > 0 && case.place <= case.layers.len());
         let below = pile(base, &case.layers[0..case.place - 1])?;
@@ -571,13 +576,7 @@ mod tests {
         lay_list(&mut table, &[])?;
         tells(&rt, &table, &simpson);
         let list = [Layer::Panels(2), Layer::Stretch(0), Layer::Panels(3)];
-        match lay_list(&mut table, &list) {
-            Ok(()) => return Err(Fail::new("a count of 0")),
-            Err(fault) => {
-                assert_eq!(rt; fault.cause.number(), 6);
-                assert_eq!(rt; fault.place, 2);
-            }
-        }
+        refusal(&rt, lay_list(&mut table, &list), 6, 2)?;
         tells(&rt, &table, &doubled);
         Ok(())
     }

@@ -1,5 +1,5 @@
 -- The law of the verdict, over the bytes of two cases.
-use Rattle.std.proofs.Common.{◌≡◌, ℕ, List, Ok, Err, Option, Result, sym, refl, ◌∙◌, subst, arith}
+use Rattle.std.proofs.Common.{◌≡◌, ℕ, List, Ok, Err, Option, Result, sym, refl, ◌∙◌, subst}
 use Rattle.rules.specs.Faults.{carried}
 use Rattle.rules.specs.Meaning.{Meaning, Sound}
 use Rattle.rules.specs.declared.fault.Fault.{Fault}
@@ -22,17 +22,17 @@ accounted s m = carried s (λ r. Ok (record { pile = m; ledger = step m blank (l
 
 pile_kept : (s : Result Readings Fault) (m : Meaning) (a : Account) → accounted s m ≡ Ok a → m ≡ a.pile
 pile_kept (Ok r) m a e = cc
-pile_kept (Err f) m a e = absurd (let z : ◌≡◌ {A = ℕ} 0 1 = cc in omega arith)
+pile_kept (Err f) m a e = absurd cc
 
 pile_sound : (p : Parts) (s : Result Readings Fault) (a : Account) (q : Result Meaning Fault) → piling (layers_of p) 1 (base_of p) ≡ q → carried q (accounted s) ≡ Ok a → Sound a.pile
 pile_sound p s a (Ok m) is e =
     subst Sound (sym (piling_ok (layers_of p) 1 (base_of p) m is).0 ∙ pile_kept s m a e) (piled_sound (layers_of p) (base_of p) (built_in_sound p.base))
-pile_sound p s a (Err f) is e = absurd (let z : ◌≡◌ {A = ℕ} 0 1 = cc in omega arith)
+pile_sound p s a (Err f) is e = absurd cc
 
 -- the pile of an accepted case keeps the promises of a rule
 case_sound : (o : Result Parts Fault) (s : Result Readings Fault) (a : Account) → carried o (λ p. carried (piling (layers_of p) 1 (base_of p)) (accounted s)) ≡ Ok a → Sound a.pile
 case_sound (Ok p) s a e = pile_sound p s a (piling (layers_of p) 1 (base_of p)) refl e
-case_sound (Err f) s a e = absurd (let z : ◌≡◌ {A = ℕ} 0 1 = cc in omega arith)
+case_sound (Err f) s a e = absurd cc
 
 pub law_on_bytes : (first_order first_survey second_order second_survey : List ℕ) (v : Option (Result Verdict Fault)) → v ≡ verdict_on_bytes first_order first_survey second_order second_survey → VerdictLaw (account_of_case first_order first_survey) (account_of_case second_order second_survey) v
 law_on_bytes o s p t v is =

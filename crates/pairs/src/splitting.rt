@@ -2,58 +2,46 @@
 ghost use Rattle.std.specs.Prelude.{◌≡◌, take, drop};
 ghost use Rattle.pairs.specs.Splits.{after_first, survey_length};
 
-// The bytes of an order.
-const ORDER_BYTES: usize = 6;
+use session::Input;
 
 // The bytes of a survey before its stations, and those of one station and its reading.
 const HEADER: usize = 6;
 
 const ENTRY_BYTES: usize = 6;
 
-// The order and the survey of each of two cases.
+// Two cases, each an order and a survey.
 #[derive(Clone, Copy)]
 pub struct Pair<'a> {
-    pub first_order: &'a [u8],
-    pub first_survey: &'a [u8],
-    pub second_order: &'a [u8],
-    pub second_survey: &'a [u8],
-}
-
-// The bytes before a place, and those from it on. Where there are fewer bytes, all of them and none.
-fn cut(bytes: &[u8], at: usize) -> (&[u8], &[u8])
-    ensures front { result.0.now ≡ take at bytes.now }
-    ensures rest { result.1.now ≡ drop at bytes.now }
-{
-    if bytes.len() < at {
-        return (bytes, &[]);
-    }
-    (&bytes[0..at], &bytes[at..])
+    pub first: Input<'a>,
+    pub second: Input<'a>,
 }
 
 // How long a survey is that these bytes begin with, by its count.
 fn survey_bytes(bytes: &[u8]) -> usize
     ensures { result ≡ survey_length bytes.now }
 {
-    if bytes.len() < 2 {
+    let [high, low, ..] = bytes else {
         return HEADER;
-    }
-    HEADER + ENTRY_BYTES * u16::from_be_bytes([bytes[0], bytes[1]]) as usize
+    };
+    HEADER + ENTRY_BYTES * u16::from_be_bytes([*high, *low]) as usize
 }
 
 // Splits an input into two cases. The first survey is as long as its count says; what is left is the second case.
 pub fn split(input: &[u8]) -> Pair
-    ensures first_order { result.first_order.now ≡ take 6 input.now }
-    ensures first_survey { result.first_survey.now ≡ take (survey_length (drop 6 input.now)) (drop 6 input.now) }
-    ensures second_order { result.second_order.now ≡ take 6 (after_first input.now) }
-    ensures second_survey { result.second_survey.now ≡ drop 6 (after_first input.now) }
+    ensures first_order { result.first.order.now ≡ take 6 input.now }
+    ensures first_survey { result.first.survey.now ≡ take (survey_length (drop 6 input.now)) (drop 6 input.now) }
+    ensures second_order { result.second.order.now ≡ take 6 (after_first input.now) }
+    ensures second_survey { result.second.survey.now ≡ drop 6 (after_first input.now) }
 {
-    let (first_order, rest) = cut(input, ORDER_BYTES);
-    let (first_survey, second) = cut(rest, survey_bytes(rest));
-    let (second_order, second_survey) = cut(second, ORDER_BYTES);
+    let Input {
+        order,
+        survey: rest,
+    } = Input::split(input);
+    let (survey, second) = rest
+        .split_at_checked(survey_bytes(rest))
+        .unwrap_or((rest, &[]));
     Pair {
-        first_order,
-        first_survey,
-        second_order,
-        second_survey,
+        first: Input { order, survey },
+        second: Input::split(second),
     }
 }

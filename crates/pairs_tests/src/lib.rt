@@ -4,7 +4,7 @@
 #[cfg(test)]
 mod tests {
     use pairs::{split, verdict, write_verdict};
-    use session::report;
+    use session::{Input, report};
     use std::process::Abort;
 
     // The readings 0, 1, 4 at the stations 0, 1, 2, by the trapezoid in two panels and by Simpson's rule, with the tolerance 0.
@@ -14,23 +14,24 @@ mod tests {
     const MEET: [u8; 60] =
         *b"\x01\x00\x00\x01\x00\x02\x00\x03\x00\x00\x00\x01\x00\x00\x00\x01\x00\x02\x00\x00\x00\x00\x00\x00\x00\x01\x00\x00\x00\x04\x02\x00\x00\x01\x00\x01\x00\x03\x00\x00\x00\x01\x00\x00\x00\x01\x00\x02\x00\x00\x00\x00\x00\x00\x00\x01\x00\x00\x00\x04";
 
+    // Other crates of tests have the like: a crate for a few lines would stand below them all.
     fn holds(rt: &impl Abort, out: &[u8], len: usize, text: &str) {
         assert_eq!(rt; len, text.len());
         assert!(rt; text.len() <= out.len());
         assert_eq!(rt; &out[0..text.len()], text.as_bytes());
     }
 
-    fn reports(rt: &impl Abort, order: &[u8], survey: &[u8], text: &str) {
+    fn reports(rt: &impl Abort, input: Input, text: &str) {
         let mut out = [0; 96];
-        let len = report(order, survey, &mut out).len;
+        let len = report(input, &mut out).len;
         holds(rt, &out, len, text);
     }
 
     // The three lines of an input.
     fn gives(rt: &impl Abort, input: &[u8], first: &str, second: &str, third: &str) {
         let pair = split(input);
-        reports(rt, pair.first_order, pair.first_survey, first);
-        reports(rt, pair.second_order, pair.second_survey, second);
+        reports(rt, pair.first, first);
+        reports(rt, pair.second, second);
         let mut out = [0; 96];
         let len = write_verdict(&mut out, verdict(pair)).len;
         holds(rt, &out, len, third);

@@ -3,8 +3,8 @@
 
 #[cfg(test)]
 mod tests {
-    use report::{Written, write_refusal, write_result};
-    use rules::{Cause, Fault, Origin};
+    use report::{Written, write_line, write_refusal, write_result};
+    use rules::{Cause, Origin};
     use std::process::Abort;
     use std::test::Fail;
 
@@ -21,12 +21,17 @@ mod tests {
     }
 
     // The line stands in front, and the rest of the buffer is as it was.
+    // Other crates of tests have the like: a crate for a few lines would stand below them all.
     fn holds(rt: &impl Abort, out: &[u8], text: &str) {
         assert!(rt; text.len() <= out.len());
-        assert_eq!(rt; &out[0..text.len()], text.as_bytes());
-        for byte in &out[text.len()..out.len()] {
-            assert_eq!(rt; *byte, GUARD);
-        }
+        assert_eq!(rt; &out[..text.len()], text.as_bytes());
+        assert!(rt; out[text.len()..].iter().all(|byte| *byte == GUARD));
+    }
+
+    // The first `room` bytes.
+    fn front<'a>(rt: &impl Abort, out: &'a mut [u8], room: usize) -> &'a mut [u8] {
+        assert!(rt; room <= out.len());
+        &mut out[..room]
     }
 
     fn too_short(rt: &impl Abort, written: Written, needed: usize) -> Result<(), Fail> {
@@ -79,84 +84,65 @@ mod tests {
                 case.degree,
                 case.radius,
             );
-            assert_eq!(rt; written.len, case.text.len());
-            assert!(rt; written.fault.is_none());
+            assert_eq!(rt;
+                written,
+                Written {
+                    len: case.text.len(),
+                    fault: None
+                }
+            );
             holds(&rt, &out, case.text);
         }
     }
 
     #[test]
-    fn refusals(rt: HostRuntime) -> Result<(), Fail> {
+    fn refusals(rt: HostRuntime) {
         let cases = [
             (
-                Fault {
-                    cause: Cause::EmptyStation,
-                    layer: Origin::Run,
-                    place: 3,
-                },
+                Origin::Run.fault(Cause::EmptyStation, 3),
                 "REFUSED 21 RUN 3\n",
             ),
             (
-                Fault {
-                    cause: Cause::ListLength,
-                    layer: Origin::Rule,
-                    place: 0,
-                },
+                Origin::Rule.fault(Cause::ListLength, 0),
                 "REFUSED 1 RULE 0\n",
             ),
             (
-                Fault {
-                    cause: Cause::BufferShort,
-                    layer: Origin::Output,
-                    place: 84,
-                },
+                Origin::Output.fault(Cause::BufferShort, 84),
                 "REFUSED 23 OUTPUT 84\n",
             ),
             (
-                Fault {
-                    cause: Cause::ByteLength,
-                    layer: Origin::Order,
-                    place: usize::MAX,
-                },
+                Origin::Order.fault(Cause::ByteLength, usize::MAX),
                 "REFUSED 14 ORDER 18446744073709551615\n",
             ),
         ];
         for (fault, text) in &cases {
             let mut out = [GUARD; 40];
             let written = write_refusal(&mut out, *fault);
-            assert_eq!(rt; written.len, text.len());
-            let told = written.fault.ok_or("no fault")?;
-            assert_eq!(rt; told.cause.number(), fault.cause.number());
-            assert_eq!(rt; told.layer.name(), fault.layer.name());
-            assert_eq!(rt; told.place, fault.place);
+            assert_eq!(rt;
+                written,
+                Written {
+                    len: text.len(),
+                    fault: Some(*fault)
+                }
+            );
             holds(&rt, &out, text);
         }
-        Ok(())
     }
 
-    // The result 384 6 3 24 in the first `room` bytes.
-    fn result_within(rt: &impl Abort, out: &mut [u8], room: usize) -> Written {
-        assert!(rt; room <= out.len());
-        write_result(&mut out[0..room], 384, 6, 3, 24)
+    fn some_result(out: &mut [u8]) -> Written {
+        write_result(out, 384, 6, 3, 24)
     }
 
-    // The refusal 21 RUN 3 in the first `room` bytes.
-    fn refusal_within(rt: &impl Abort, out: &mut [u8], room: usize) -> Written {
-        assert!(rt; room <= out.len());
-        let fault = Fault {
-            cause: Cause::EmptyStation,
-            layer: Origin::Run,
-            place: 3,
-        };
-        write_refusal(&mut out[0..room], fault)
+    fn some_refusal(out: &mut [u8]) -> Written {
+        write_refusal(out, Origin::Run.fault(Cause::EmptyStation, 3))
     }
 
     #[test]
     fn buffers_too_short(rt: HostRuntime) -> Result<(), Fail> {
         for (result_room, refusal_room) in [(0, 0), (1, 1), (10, 16)] {
             let mut out = [GUARD; 20];
-            too_short(&rt, result_within(&rt, &mut out, result_room), 11)?;
-            too_short(&rt, refusal_within(&rt, &mut out, refusal_room), 17)?;
+            too_short(&rt, some_result(front(&rt, &mut out, result_room)), 11)?;
+            too_short(&rt, some_refusal(front(&rt, &mut out, refusal_room)), 17)?;
             holds(&rt, &out, "");
         }
         Ok(())
@@ -165,9 +151,29 @@ mod tests {
     #[test]
     fn buffers_just_long_enough(rt: HostRuntime) {
         let mut out = [GUARD; 20];
-        assert_eq!(rt; result_within(&rt, &mut out, 11).len, 11);
+        assert_eq!(rt; some_result(&mut out[..11]).len, 11);
         holds(&rt, &out, "384 6 3 24\n");
-        assert_eq!(rt; refusal_within(&rt, &mut out, 17).len, 17);
+        assert_eq!(rt; some_refusal(&mut out[..17]).len, 17);
         holds(&rt, &out, "REFUSED 21 RUN 3\n");
+    }
+
+    // A line of any text, with or without a refusal to tell.
+    #[test]
+    fn any_line(rt: HostRuntime) -> Result<(), Fail> {
+        let told = Some(Origin::Order.fault(Cause::NotOffered, 4));
+        for (line, room, told) in [("APART\n", 6, None), ("APART\n", 8, told), ("", 0, told)] {
+            let mut out = [GUARD; 8];
+            let written = write_line(front(&rt, &mut out, room), line.as_bytes(), told);
+            assert_eq!(rt; written.len, line.len());
+            assert_eq!(rt; written.fault, told);
+            holds(&rt, &out, line);
+        }
+        for (room, told) in [(5, None), (0, told)] {
+            let mut out = [GUARD; 8];
+            let written = write_line(front(&rt, &mut out, room), b"APART\n", told);
+            too_short(&rt, written, 6)?;
+            holds(&rt, &out, "");
+        }
+        Ok(())
     }
 }

@@ -2,5 +2,6 @@ pub mod BuiltIn
 pub mod Faults
 pub mod Meaning
 pub mod Tables
+pub mod Tests
 pub mod Written
 pub mod Rows

@@ -1,37 +1,18 @@
 -- The table of the built-in rules: one test over all its rows, and what a row that passes it promises.
-use Rattle.std.specs.Prelude.{◌≡◌, ℕ, zero, suc, ◌-◌, ◌%◌, ◌^◌, ◌<◌, ◌≤◌, Bool, true, false, not, ◌&&◌, ◌||◌, [], length, ℤ, pos, negsuc, ◌*ℤ◌, ◌==◌, nat_le, slice_index_or, unsigned_abs, refl}
+use Rattle.std.specs.Prelude.{◌≡◌, ℕ, suc, ◌-◌, ◌%◌, ◌^◌, ◌<◌, ◌≤◌, Bool, true, false, not, ◌&&◌, ◌||◌, [], length, ℤ, pos, ◌*ℤ◌, ◌==◌, nat_le, slice_index_or, unsigned_abs, refl}
 use Rattle.std.proofs.Common.{sym, ap, ⊎_elim, arith}
 use borrow.Author.Differences.{ints, at_most_in}
 use Rattle.std.proofs.lemmas.Bool.{and_parts, both_ways, cases_lt, eqb-true, leb-true, not-true, or_cases}
-use Rattle.std.proofs.lemmas.Bool.Decides.{Decides-below_and}
+use Rattle.std.proofs.lemmas.Bool.Decides.{Decides-int_eq}
+use Rattle.std.specs.Ordering.{int_eq}
 use Rattle.std.proofs.lemmas.List.{get_or_past}
 use Rattle.algebra.specs.Sums.{sum, abs, ◌^ℤ◌}
 use Rattle.algebra.specs.Weights.{Exact, Mirrored}
 use Rattle.rules.specs.Meaning.{Sound}
+use Rattle.rules.specs.Tests.{every, decides_every}
 use Rattle.rules.specs.BuiltIn.{rows, row_of, meaning_of_row, code_of}
 use Rattle.rules.specs.declared.built_in.Row.{Row}
 use Rattle.rules.specs.declared.built_in.BuiltIn.{BuiltIn}
-
-abbrev eqZ : ℤ → ℤ → Bool
-eqZ (pos a) (pos b) = a == b
-eqZ (pos a) (negsuc b) = false
-eqZ (negsuc a) (pos b) = false
-eqZ (negsuc a) (negsuc b) = a == b
-
-eqZ_true : (a b : ℤ) → eqZ a b ≡ true → a ≡ b
-eqZ_true (pos a) (pos b) e = ap pos (eqb-true a b e)
-eqZ_true (pos a) (negsuc b) e = cc
-eqZ_true (negsuc a) (pos b) e = cc
-eqZ_true (negsuc a) (negsuc b) e = ap negsuc (eqb-true a b e)
-
--- the test passes at each number below n
-abbrev every : ℕ → (ℕ → Bool) → Bool
-every zero p = true
-every (suc n) p = p n && every n p
-
-every_true : (n : ℕ) (p : ℕ → Bool) → every n p ≡ true → (k : ℕ) → k < n → p k ≡ true
-every_true n p =
-    (Decides-below_and p (λ k. p k ≡ true) (λ m. every m p) (λ k. (λ e. e, λ e. e)) refl (λ _. refl) n).0
 
 abbrev weight_at : Row → ℕ → ℤ
 weight_at r s = slice_index_or r.weights s (pos 0)
@@ -48,10 +29,10 @@ sizes_pass r =
 
 weights_pass : Row → Bool
 weights_pass r =
-    (length r.weights == 9) && every 9 (λ s. nat_le s r.span || eqZ (weight_at r s) (pos 0))
+    (length r.weights == 9) && every 9 (λ s. nat_le s r.span || int_eq (weight_at r s) (pos 0))
 
 ceiling_passes : Row → Bool
-ceiling_passes r = eqZ (absolute_sum r) (pos r.ceiling) && nat_le r.ceiling (2 ^ 40)
+ceiling_passes r = int_eq (absolute_sum r) (pos r.ceiling) && nat_le r.ceiling (2 ^ 40)
 
 -- both sides of moment k: (k+1) · Σ W(s)·sᵏ and D · Lᵏ⁺¹
 abbrev moment_left : Row → ℕ → ℤ
@@ -61,11 +42,11 @@ abbrev moment_right : Row → ℕ → ℤ
 moment_right r k = pos r.denominator *ℤ (pos r.span ^ℤ suc k)
 
 moments_pass : Row → Bool
-moments_pass r = every (suc r.degree) (λ k. eqZ (moment_left r k) (moment_right r k))
+moments_pass r = every (suc r.degree) (λ k. int_eq (moment_left r k) (moment_right r k))
 
 symmetry_passes : Row → Bool
 symmetry_passes r =
-    not r.symmetric || (r.degree % 2 == 1 && every (suc r.span) (λ s. eqZ (weight_at r s) (weight_at r (r.span - s))))
+    not r.symmetric || (r.degree % 2 == 1 && every (suc r.span) (λ s. int_eq (weight_at r s) (weight_at r (r.span - s))))
 
 passes : Row → Bool
 passes r = sizes_pass r && (weights_pass r && (ceiling_passes r && (moments_pass r && symmetry_passes r)))
@@ -79,7 +60,7 @@ row_index : (b : BuiltIn) → code_of b - 1 < 10
 row_index b = grind arith
 
 row_passes : (b : BuiltIn) → passes (row_of b) ≡ true
-row_passes b = every_true 10 (λ i. passes (slice_index_or rows i none)) table_passes (code_of b - 1) (row_index b)
+row_passes b = (decides_every 10 (λ i. passes (slice_index_or rows i none))).0 table_passes (code_of b - 1) (row_index b)
 
 sound_sizes : (r : Row) → sizes_pass r ≡ true → (1 ≤ r.span) × (r.span ≤ 8) × (1 ≤ r.denominator) × (r.denominator ≤ 2 ^ 31) × (r.degree ≤ 11)
 unfolding sizes_pass
@@ -94,27 +75,27 @@ beyond_span : (r : Row) → weights_pass r ≡ true → (s : ℕ) → r.span < s
 unfolding weights_pass
 beyond_span r e s h =
     let p = and_parts (length r.weights == 9) _ e in
-    ⊎_elim (λ lt. within (every_true 9 (λ k. nat_le k r.span || eqZ (weight_at r k) (pos 0)) p.1 s lt))
+    ⊎_elim (λ lt. within ((decides_every 9 (λ k. nat_le k r.span || int_eq (weight_at r k) (pos 0))).0 p.1 s lt))
     (λ ge. get_or_past r.weights s (pos 0) (omega (arith, eqb-true _ _ p.0)))
     (cases_lt s 9)
   where
-    within : (nat_le s r.span || eqZ (weight_at r s) (pos 0)) ≡ true → weight_at r s ≡ pos 0
+    within : (nat_le s r.span || int_eq (weight_at r s) (pos 0)) ≡ true → weight_at r s ≡ pos 0
     within t =
-        ⊎_elim (λ u. absurd (omega (arith, leb-true _ _ u))) (λ u. eqZ_true (weight_at r s) (pos 0) u)
+        ⊎_elim (λ u. absurd (omega (arith, leb-true _ _ u))) (λ u. (Decides-int_eq (weight_at r s) (pos 0)).0 u)
         (or_cases (nat_le s r.span) _ t)
 
 exact_row : (r : Row) → moments_pass r ≡ true → Exact r.span (weight_at r) r.denominator r.degree
 unfolding moments_pass
 exact_row r e k h =
-    eqZ_true (moment_left r k) (moment_right r k)
-    (every_true (suc r.degree) (λ i. eqZ (moment_left r i) (moment_right r i)) e k (omega arith))
+    (Decides-int_eq (moment_left r k) (moment_right r k)).0
+    ((decides_every (suc r.degree) (λ i. int_eq (moment_left r i) (moment_right r i))).0 e k (omega arith))
 
 symmetric_row : (r : Row) → symmetry_passes r ≡ true → r.symmetric ≡ true → Mirrored r.span (weight_at r) × (r.degree % 2 ≡ 1)
 unfolding symmetry_passes
 symmetric_row r e y =
     ⊎_elim (λ n. absurd (both_ways r.symmetric (not-true r.symmetric n) y))
     (λ t. let p = and_parts (r.degree % 2 == 1) _ t in
-    (λ s h. eqZ_true (weight_at r s) (weight_at r (r.span - s)) (every_true (suc r.span) (λ i. eqZ (weight_at r i) (weight_at r (r.span - i))) p.1 s (omega arith)), eqb-true _ _ p.0))
+    (λ s h. (Decides-int_eq (weight_at r s) (weight_at r (r.span - s))).0 ((decides_every (suc r.span) (λ i. int_eq (weight_at r i) (weight_at r (r.span - i)))).0 p.1 s (omega arith)), eqb-true _ _ p.0))
     (or_cases (not r.symmetric) _ e)
 
 -- the five tests that a row passes
@@ -130,8 +111,8 @@ parts r e =
 ceiling_of_row : (r : Row) → ceiling_passes r ≡ true → (absolute_sum r ≡ pos r.ceiling) × (r.ceiling ≤ 2 ^ 40)
 unfolding ceiling_passes
 ceiling_of_row r e =
-    let c = and_parts (eqZ (absolute_sum r) (pos r.ceiling)) _ e in
-    (eqZ_true (absolute_sum r) (pos r.ceiling) c.0, leb-true _ _ c.1)
+    let c = and_parts (int_eq (absolute_sum r) (pos r.ceiling)) _ e in
+    ((Decides-int_eq (absolute_sum r) (pos r.ceiling)).0 c.0, leb-true _ _ c.1)
 
 -- a row that passes keeps the promises of a rule
 row_sound : (r : Row) → passes r ≡ true → Sound (meaning_of_row r)

@@ -1,35 +1,21 @@
 -- Written rules: which lists of weights are accepted, and what an accepted one tells.
-use Rattle.std.specs.Prelude.{ℕ, zero, suc, ◌-◌, ◌%◌, Bool, true, false, cond, ◌&&◌, ◌||◌, List, [], ◌∷◌, length, ℤ, pos, negsuc, ◌*ℤ◌, Some, None, Ok, Err, Option, Result, ◌==◌, nat_lt, slice_index_or, unsigned_abs}
-use Rattle.algebra.specs.Sums.{sum, abs, ◌^ℤ◌}
+use Rattle.std.specs.Prelude.{ℕ, zero, suc, ◌-◌, ◌%◌, Bool, true, cond, ◌&&◌, ◌||◌, List, [], ◌∷◌, length, ℤ, pos, ◌*ℤ◌, Some, None, Ok, Err, Option, Result, ◌==◌, nat_lt, slice_index_or, sum_by, unsigned_abs}
+use Rattle.std.specs.Option.{option_or}
+use Rattle.std.specs.Ordering.{int_eq}
+use Rattle.algebra.specs.Sums.{sum, ◌^ℤ◌}
 use Rattle.rules.specs.Meaning.{Meaning, telling}
 use Rattle.rules.specs.Tables.{told}
+use Rattle.rules.specs.Tests.{every}
 use Rattle.rules.specs.declared.written.Written.{Written}
 use Rattle.rules.specs.declared.fault.Fault.{Fault}
 use Rattle.rules.specs.declared.fault.Cause.{Cause}
 use Rattle.rules.specs.declared.fault.Cause.TheVariants.{ListLength, DenominatorRange, WeightSum, WrittenDegree, NotExact}
 use Rattle.rules.specs.declared.fault.Origin.TheVariants.{Rule}
 
--- whether two integers are equal
-abbrev pub equal : ℤ → ℤ → Bool
-equal (pos a) (pos b) = a == b
-equal (pos a) (negsuc b) = false
-equal (negsuc a) (pos b) = false
-equal (negsuc a) (negsuc b) = a == b
-
--- whether the test passes at each number below n
-abbrev pub every : ℕ → (ℕ → Bool) → Bool
-every zero p = true
-every (suc n) p = every n p && p n
-
--- the first of two answers if there is one, else the second
-abbrev pub or_else : Option ℕ → Option ℕ → Option ℕ
-or_else (Some k) o = Some k
-or_else None o = o
-
 -- the lowest number below n at which the test fails
 abbrev pub first_failing : ℕ → (ℕ → Bool) → Option ℕ
 first_failing zero p = None
-first_failing (suc n) p = or_else (first_failing n p) (cond (p n) None (Some n))
+first_failing (suc n) p = option_or (first_failing n p) (cond (p n) None (Some n))
 
 -- the weight that a list has at a station, 0 past its end
 abbrev pub weight_in : List ℤ → ℕ → ℤ
@@ -41,7 +27,7 @@ last_station ws = length ws - 1
 
 -- the sum of the absolute weights
 abbrev pub absolute_sum : List ℤ → ℕ
-absolute_sum ws = unsigned_abs (sum (length ws) (λ s. abs (weight_in ws s)))
+absolute_sum ws = sum_by unsigned_abs ws
 
 -- Σ W(s)·sᵏ
 abbrev pub moment_of : List ℤ → ℕ → ℤ
@@ -49,11 +35,11 @@ moment_of ws k = sum (length ws) (λ s. weight_in ws s *ℤ (pos s ^ℤ k))
 
 -- whether power k is integrated exactly over the stations 0 to L: (k+1) · Σ W(s)·sᵏ = D · Lᵏ⁺¹
 abbrev pub integrates : List ℤ → ℕ → ℕ → Bool
-integrates ws D k = equal (pos (suc k) *ℤ moment_of ws k) (pos D *ℤ (pos (last_station ws) ^ℤ suc k))
+integrates ws D k = int_eq (pos (suc k) *ℤ moment_of ws k) (pos D *ℤ (pos (last_station ws) ^ℤ suc k))
 
 -- whether W(s) = W(L−s) at each station
 abbrev pub reads_same : List ℤ → Bool
-reads_same ws = every (length ws) (λ s. equal (weight_in ws s) (weight_in ws (last_station ws - s)))
+reads_same ws = every (length ws) (λ s. int_eq (weight_in ws s) (weight_in ws (last_station ws - s)))
 
 -- a symmetric rule that is exact to an even degree is exact to the next one too
 abbrev pub degree_told : Bool → ℕ → ℕ
@@ -65,11 +51,8 @@ accepted ws D d =
     telling (last_station ws) D (degree_told (reads_same ws) d) (reads_same ws) (absolute_sum ws) (weight_in ws)
 
 -- a refusal of a list of weights, from RULE
-abbrev pub fault_at : Cause → ℕ → Fault
-fault_at c k = record { cause = c; layer = Rule; place = k }
-
 abbrev pub refused : Cause → ℕ → Result Meaning Fault
-refused c k = Err (fault_at c k)
+refused c k = Err (record { cause = c; layer = Rule; place = k })
 
 -- accepted unless some power fails, which is then the place of the refusal
 abbrev pub unless_failing : Option ℕ → Meaning → Result Meaning Fault

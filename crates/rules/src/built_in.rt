@@ -7,7 +7,7 @@ use crate::fault::{Cause, Fault, Origin};
 use crate::rule::Rule;
 
 // A built-in rule; the number of a case is its code.
-#[derive(Clone, Copy)]
+#[derive(Clone, Copy, PartialEq, Eq, Debug)]
 pub enum BuiltIn {
     Trapezoid = 1,
     Simpson = 2,
@@ -22,6 +22,8 @@ pub enum BuiltIn {
 }
 
 // One row of the table: the weights at the stations 0 to 8, 0 beyond the span.
+// No `Table`, whose 1,025 weights would be copied at each question; one computed test over all rows shows that they keep the promises of a rule.
+// A slice as long as the span was tried for the weights: a reference denotes its address too, so the rows of the definition would be more than their numbers.
 #[derive(Clone, Copy)]
 pub(crate) struct Row {
     span: usize,
@@ -117,11 +119,13 @@ const ROWS: [Row; 10] = [
     },
 ];
 
-impl BuiltIn {
-    // The rule of a code; refused unless the code is 1 to 10.
-    pub fn from_code(code: u8) -> Result<BuiltIn, Fault>
-        ensures { result ≡ of_code code }
-    {
+// The rule of a code; refused unless the code is 1 to 10.
+impl TryFrom<u8> for BuiltIn {
+    type Error = Fault;
+
+    ghost try_from_gives = { λ code rule. rule ≡ of_code code };
+
+    fn try_from(code: u8) -> Result<BuiltIn, Fault> {
         match code {
             1 => Ok(BuiltIn::Trapezoid),
             2 => Ok(BuiltIn::Simpson),
@@ -133,19 +137,17 @@ impl BuiltIn {
             8 => Ok(BuiltIn::NinePoint),
             9 => Ok(BuiltIn::Midpoint),
             10 => Ok(BuiltIn::LeftRectangle),
-            _ => Err(Fault {
-                cause: Cause::NotOffered,
-                layer: Origin::Order,
-                place: 0,
-            }),
+            _ => Err(Origin::Order.fault(Cause::NotOffered, 0)),
         }
     }
+}
 
-    // The code, 1 to 10.
-    pub fn code(self) -> u8
-        ensures { result ≡ code_of self }
-    {
-        self as u8
+// The code, 1 to 10.
+impl From<BuiltIn> for u8 {
+    ghost from_gives = { λ rule code. code ≡ code_of rule };
+
+    fn from(rule: BuiltIn) -> u8 {
+        rule as u8
     }
 }
 

@@ -58,7 +58,7 @@ pub enum Cause {
 }
 
 impl Cause {
-    // The number that a report prints.
+    // The number that a report prints; a method, since its name says which number is meant and `u8::from(cause)` would not.
     pub fn number(self) -> u8
         ensures { result ≡ number_of self }
     {
@@ -66,21 +66,21 @@ impl Cause {
     }
 }
 
-// The part of the library that refuses.
+// The part of the library that refuses. The number of a case is the one that stands for it in C.
 #[derive(Clone, Copy, PartialEq, Eq, Debug)]
 pub enum Origin {
-    Rule,
-    Layer,
-    Source,
-    Run,
+    Rule = 1,
+    Layer = 2,
+    Source = 3,
+    Run = 4,
     // the second of two runs
-    Other,
-    Order,
-    Output,
+    Other = 5,
+    Order = 6,
+    Output = 7,
 }
 
 impl Origin {
-    // The name that a report prints.
+    // The name that a report prints. `Display` prints it too; a line of fixed room is given the text.
     pub fn name(self) -> &'static str
         ensures { result.now ≡ name_of self }
     {
@@ -93,6 +93,25 @@ impl Origin {
             Origin::Order => "ORDER",
             Origin::Output => "OUTPUT",
         }
+    }
+
+    // A refusal from this part.
+    pub fn fault(self, cause: Cause, place: usize) -> Fault
+        ensures { result ≡ record { cause = cause; layer = self; place = place } }
+    {
+        Fault {
+            cause,
+            layer: self,
+            place,
+        }
+    }
+}
+
+impl fmt::Display for Origin {
+    ghost output = { λ origin. Some (name_of origin) };
+
+    fn fmt<W: fmt::Write>(&self, f: &mut fmt::Formatter<W>) -> fmt::Result {
+        f.write_str(self.name())
     }
 }
 
@@ -109,9 +128,6 @@ impl fmt::Display for Fault {
     ghost output = { λ f. Some (fault_text f) };
 
     fn fmt<W: fmt::Write>(&self, f: &mut fmt::Formatter<W>) -> fmt::Result {
-        let number = self.cause.number();
-        let layer = self.layer.name();
-        let place = self.place;
-        write!(f, "{number} {layer} {place}")
+        write!(f, "{} {} {}", self.cause.number(), self.layer, self.place)
     }
 }

@@ -2,16 +2,14 @@
 mod checks;
 mod filling;
 
-ghost use Rattle.std.specs.Prelude.{◌≡◌, ◌≤◌};
+ghost use Rattle.std.specs.Prelude.{◌≡◌};
 ghost use Rattle.rules.specs.Tables.{told};
-ghost use Rattle.rules.specs.Written.{degree_told, fault_at, held, held_after, loading, mapped, reply, trapezoid};
-ghost use Rattle.std.proofs.Common.{rules};
+ghost use Rattle.rules.specs.Written.{held, held_after, loading, mapped, reply, trapezoid};
 
 use crate::fault::{Cause, Fault, Origin};
 use crate::rule::Rule;
 use crate::table::Table;
-use checks::{absolute_sum, first_inexact, is_mirrored};
-use filling::tabled;
+use checks::{Listed, absolute_sum};
 
 // The most weights that a list may have.
 const MOST_WEIGHTS: usize = 17;
@@ -28,57 +26,33 @@ pub struct Written {
     table: Table,
 }
 
-// A refusal of a list of weights.
-fn refusal(cause: Cause, place: usize) -> Fault
-    ensures { result ≡ fault_at cause place }
-{
-    Fault {
-        cause,
-        layer: Origin::Rule,
-        place,
-    }
-}
-
-// The degree of a rule that is exact up to the one given: a symmetric rule that is exact up to an even degree is exact up to the next one too.
-fn degree_of(symmetric: bool, degree: usize) -> usize
-    requires { degree ≤ 9 }
-    ensures { result ≡ degree_told symmetric degree }
-{
-    if symmetric && degree % 2 == 0 {
-        degree + 1
-    } else {
-        degree
-    }
-}
-
 // The table of a list of weights that passes every check, or the first refusal.
 fn checked(weights: &[i64], denominator: u64, degree: usize) -> Result<Table, Fault>
     ensures { mapped told result ≡ loading weights.now denominator degree }
 {
     if weights.len() < 2 || weights.len() > MOST_WEIGHTS {
-        return Err(refusal(Cause::ListLength, 0));
+        return Err(Origin::Rule.fault(Cause::ListLength, 0));
     }
     if denominator == 0 || denominator > DENOMINATOR_LIMIT {
-        return Err(refusal(Cause::DenominatorRange, 0));
+        return Err(Origin::Rule.fault(Cause::DenominatorRange, 0));
     }
     if degree > DEGREE_LIMIT {
-        return Err(refusal(Cause::WrittenDegree, 0));
+        return Err(Origin::Rule.fault(Cause::WrittenDegree, 0));
     }
     let ceiling = absolute_sum(weights);
     if ceiling > SUM_LIMIT {
-        return Err(refusal(Cause::WeightSum, 0));
+        return Err(Origin::Rule.fault(Cause::WeightSum, 0));
     }
-    if let Some(power) = first_inexact(weights, denominator, degree) {
-        return Err(refusal(Cause::NotExact, power));
-    }
-    let symmetric = is_mirrored(weights);
-    Ok(tabled(
+    let list = Listed {
         weights,
         denominator,
-        degree_of(symmetric, degree),
-        symmetric,
-        ceiling as u64,
-    ))
+        degree,
+        ceiling: ceiling as u64,
+    };
+    if let Some(power) = list.first_inexact() {
+        return Err(Origin::Rule.fault(Cause::NotExact, power));
+    }
+    Ok(list.table())
 }
 
 impl Written {
@@ -86,8 +60,14 @@ impl Written {
     pub fn new() -> Written
         ensures { held result ≡ trapezoid }
     {
+        let list = Listed {
+            weights: &[1, 1],
+            denominator: 2,
+            degree: 1,
+            ceiling: 2,
+        };
         Written {
-            table: tabled(&[1, 1], 2, 1, true, 2),
+            table: list.table(),
         }
     }
 
@@ -105,7 +85,7 @@ impl Written {
 impl Rule for Written {
     ghost meaning = { held };
 
-    ghost sound = { Prim.search rules };
+    ghost sound = { λ rule. rule.table.sound };
 
     fn span(&self) -> usize {
         self.table.span()

@@ -1,7 +1,7 @@
 -- Changes of readings keep what a source promises.
-use Rattle.std.proofs.Common.{◌≡◌, ℕ, ◌<◌, ◌≤◌, Bool, true, false, cond, eqb, ℤ, nat_abs, is_some, Some, None, Option, sym, refl, ap, ◌∙◌, subst, arith}
+use Rattle.std.proofs.Common.{◌≡◌, ℕ, ◌<◌, ◌≤◌, Bool, false, cond, eqb, ℤ, nat_abs, is_some, Some, None, Option, sym, ap, ◌∙◌, arith}
 use mathlib.Core.Path.{fun_ext}
-use Rattle.std.proofs.lemmas.Bool.{eqb-true}
+use Rattle.std.proofs.lemmas.Bool.Decides.{nat_tests}
 use Rattle.sources.specs.Readings.{Readings}
 use Rattle.sources.specs.Rows.{with_reading, without_reading}
 use Rattle.sources.proofs.Writing.{write_in}
@@ -20,21 +20,22 @@ abbrev pub NoneBeyond : (ℕ → Option ℤ) → Type 0
 NoneBeyond f = (s : ℕ) → 1024 < s → is_some (f s) ≡ false
 
 pub blank_in_range : (f : ℕ → Option ℤ) → ((s : ℕ) → f s ≡ None) → AllInRange f
-blank_in_range f none s v e =
-    let n = none s in
-    let z : ◌≡◌ {A = ℕ} 0 1 = cc in
-    absurd (omega arith)
+blank_in_range f none s v e = let n = none s in cc
 
 pub blank_beyond : (f : ℕ → Option ℤ) → ((s : ℕ) → f s ≡ None) → NoneBeyond f
 blank_beyond f none s l = ap is_some (none s)
 
 some_value : (b : Bool) (x v : ℤ) (o : Option ℤ) → nat_abs x ≤ 1048576 → (o ≡ Some v → nat_abs v ≤ 1048576) → cond b (Some x) o ≡ Some v → nat_abs v ≤ 1048576
-some_value true x v o h k e = let same : x ≡ v = cc in subst (λ (t : ℤ). nat_abs t ≤ 1048576) same h
-some_value false x v o h k e = k e
+some_value b x v o h k e = grind arith
 
 none_value : (b : Bool) (v : ℤ) (o : Option ℤ) → (o ≡ Some v → nat_abs v ≤ 1048576) → cond b None o ≡ Some v → nat_abs v ≤ 1048576
-none_value true v o k e = let z : ◌≡◌ {A = ℕ} 0 1 = cc in absurd (omega arith)
-none_value false v o k e = k e
+none_value b v o k e = grind arith
+
+some_beyond : (s k : ℕ) (x : ℤ) (o : Option ℤ) → 1024 < s → k ≤ 1024 → is_some o ≡ false → is_some (cond (eqb s k) (Some x) o) ≡ false
+some_beyond s k x o l within none = grind (arith, nat_tests)
+
+none_beyond : (b : Bool) (o : Option ℤ) → is_some o ≡ false → is_some (cond b None o) ≡ false
+none_beyond b o none = grind arith
 
 module _ (f g : ℕ → Option ℤ) (k : ℕ) (x : ℤ) (within : k ≤ 1024) (small : nat_abs x ≤ 1048576) (put : g ≡ with_reading k x f) where
   at : (s : ℕ) → g s ≡ cond (eqb s k) (Some x) (f s)
@@ -44,11 +45,7 @@ module _ (f g : ℕ → Option ℤ) (k : ℕ) (x : ℤ) (within : k ≤ 1024) (s
   put_in_range before s v e = some_value (eqb s k) x v (f s) small (before s v) (sym (at s) ∙ e)
 
   pub put_beyond : NoneBeyond f → NoneBeyond g
-  put_beyond before s l = ap is_some (at s) ∙ other (eqb s k) refl
-    where
-      other : (b : Bool) → eqb s k ≡ b → is_some (cond b (Some x) (f s)) ≡ false
-      other true e = let same = eqb-true s k e in absurd (omega arith)
-      other false e = before s l
+  put_beyond before s l = ap is_some (at s) ∙ some_beyond s k x (f s) l within (before s l)
 
   pub put_readings : (e : ℕ) → ◌≡◌ {A = Readings} (record { reading = g; tolerance = e }) (with_value k x (record { reading = f; tolerance = e }))
   put_readings e = same_readings g (λ s. cond (eqb s k) (Some x) (f s)) e at
@@ -61,8 +58,4 @@ module _ (f g : ℕ → Option ℤ) (k : ℕ) (strike : g ≡ without_reading k 
   strike_in_range before s v e = none_value (eqb s k) v (f s) (before s v) (sym (struck_at s) ∙ e)
 
   pub strike_beyond : NoneBeyond f → NoneBeyond g
-  strike_beyond before s l = ap is_some (struck_at s) ∙ other (eqb s k)
-    where
-      other : (b : Bool) → is_some (cond b None (f s)) ≡ false
-      other true = refl
-      other false = before s l
+  strike_beyond before s l = ap is_some (struck_at s) ∙ none_beyond (eqb s k) (f s) (before s l)

@@ -1,5 +1,5 @@
 -- The verdict on two ledgers.
-use Rattle.std.proofs.Common.{◌≡◌, ℕ, ◌^◌, ◌≤◌, Bool, true, false, cond, not, ℤ, pos, ◌≤ℤ◌, is_some, Some, None, Ok, Option, Result, sym, refl, ap, ◌∙◌, subst, ap₂, ⊎_elim, arith}
+use Rattle.std.proofs.Common.{◌≡◌, ℕ, ◌≤◌, Bool, true, false, cond, not, ℤ, pos, ◌≤ℤ◌, is_some, Some, None, Ok, Option, Result, sym, refl, ap, ◌∙◌, subst, ap₂, ⊎_elim, arith}
 use borrow.Author.Differences.{ints}
 use Rattle.std.proofs.lemmas.Bool.{cases_Bool, eq-eqb}
 use Rattle.rules.specs.Meaning.{Meaning, Sound}
@@ -18,7 +18,7 @@ use Rattle.runs.specs.Ledger.{Ledger, estimate_of, result_of}
 use Rattle.runs.specs.Totals.{lowest_empty, absolute_sum, fault_at, empty_station, given}
 use Rattle.runs.specs.Verdicts.{shared, bands_apart, Bounded, first_fault, verdict_refusal, verdict_on, verdict_of, Separates}
 use Rattle.runs.proofs.Bands.{apart_none, meet_some}
-use Rattle.runs.proofs.Sizes.{product_bound, size_bound, sum_bound}
+use Rattle.runs.proofs.Sizes.{radius_bound, sum_bound}
 
 -- what is held keeps the promises of a source
 pub held_sound : (h : Held) → SoundReadings (readings_held h)
@@ -29,14 +29,13 @@ held_sound h = record {
 }
   where
     none : (o : Option ℤ) → is_some o ≡ false → o ≡ None
-    none (Some v) e = let z : ◌≡◌ {A = ℕ} 0 1 = cc in absurd (omega arith)
-    none None e = refl
+    none o e = grind arith
 
 -- the numbers of a result are bounded
 pub estimate_bounded : (m : Meaning) (r : Readings) → Sound m → SoundReadings r → Bounded (estimate_of m r)
 estimate_bounded m r h k = record {
   value = sum_bound m r h k m.weighting.stations (omega arith);
-  radius = product_bound (2 ^ 20) (2 ^ 40) (pos r.tolerance) (absolute_sum m.weighting) k.tolerance (size_bound m h m.weighting.stations (omega arith));
+  radius = radius_bound m r h k m.weighting.stations r.tolerance (absolute_sum m.weighting) (omega arith) refl refl;
   least = h.denominator.least;
   most = h.denominator.most;
 }
@@ -51,21 +50,17 @@ radius_positive m r =
 
 -- an answer that is given was not refused
 pub given_ok : {A : Type 0} (o : Option Fault) (a b : A) → Ok a ≡ given o b → (a ≡ b) × (o ≡ None)
-given_ok (Some f) a b e = let z : ◌≡◌ {A = ℕ} 0 1 = cc in absurd (omega arith)
-given_ok None a b e = (cc, refl)
+given_ok o a b e = grind arith
 
 -- a run that has a result lacks no station, whichever of two it is
 other_none : (o : Option ℕ) → empty_station Run o ≡ None → empty_station Other o ≡ None
-other_none (Some s) e = let z : ◌≡◌ {A = ℕ} 0 1 = cc in absurd (omega arith)
-other_none None e = refl
+other_none o e = grind arith
 
 is_apart : (b : Bool) (r : Result Verdict Fault) → r ≡ Ok (cond b Apart Meet) → r ≡ Ok Apart → b ≡ true
-is_apart true r e a = refl
-is_apart false r e a = let z : ◌≡◌ {A = ℕ} 0 1 = cc in absurd (omega arith)
+is_apart b r e a = grind arith
 
 is_meet : (b : Bool) (r : Result Verdict Fault) → r ≡ Ok (cond b Apart Meet) → r ≡ Ok Meet → b ≡ false
-is_meet false r e a = refl
-is_meet true r e a = let z : ◌≡◌ {A = ℕ} 0 1 = cc in absurd (omega arith)
+is_meet b r e a = grind arith
 
 module _ (m : Meaning) (l : Ledger) (n : Meaning) (k : Ledger) (e f : Estimate) (he : result_of m l.readings ≡ Ok e) (hf : result_of n k.readings ≡ Ok f) where
   first : (e ≡ estimate_of m l.readings) × (empty_station Run (lowest_empty m.weighting l.readings) ≡ None)

@@ -1,9 +1,8 @@
 -- A load, station by station.
-use Rattle.std.proofs.Common.{◌≡◌, ℕ, ◌+◌, Bool, cond, eqb, ltb, leb, ℤ, Some, None, Option, sym, ap, ◌∙◌, ⊎_elim, arith}
-use Rattle.std.proofs.lemmas.Bool.{cases_eq, cond-true, cond-false, lt-ltb, le-ltb, eq-eqb, ne_eqb}
+use Rattle.std.proofs.Common.{◌≡◌, ℕ, ◌+◌, cond, eqb, ltb, ℤ, Some, None, Option, ap, ◌∙◌, arith}
 use Rattle.std.proofs.lemmas.Bool.Decides.{nat_tests}
 use Rattle.sources.specs.Readings.{Readings}
-use Rattle.runs.specs.Changes.{with_value, or_kept, with_readings}
+use Rattle.runs.specs.Changes.{with_value, or_kept}
 use Rattle.runs.proofs.Changes.{same_readings}
 
 -- the readings of a source at the stations below n
@@ -13,46 +12,31 @@ taken n source r = record {
   tolerance = r.tolerance;
 }
 
-module _ (source r : Readings) where
-  pub taken_none : r ≡ taken 0 source r
-  taken_none =
-      same_readings r.reading (taken 0 source r).reading r.tolerance
-      (λ s. sym (cond-false (ltb s 0) (or_kept (source.reading s) (r.reading s)) (r.reading s) (le-ltb s 0 (omega arith))))
+none_at : (s : ℕ) (loaded kept : Option ℤ) → kept ≡ cond (ltb s 0) (or_kept loaded kept) kept
+none_at s loaded kept = grind (arith, nat_tests)
 
-  module _ (n : ℕ) where
-    same_test : (s : ℕ) → (s ≡ n → ⊥) → ltb s n ≡ ltb s (n + 1)
-    same_test s d = grind (arith, nat_tests)
+-- at one station s, where the source has `loaded` and `kept` was there
+skip_at : (s n : ℕ) (loaded kept : Option ℤ) → (s ≡ n → loaded ≡ None) → cond (ltb s n) (or_kept loaded kept) kept ≡ cond (ltb s (n + 1)) (or_kept loaded kept) kept
+skip_at s n loaded kept none = grind (arith, nat_tests)
 
-    here : (s : ℕ) → s ≡ n → (taken (n + 1) source r).reading s ≡ or_kept (source.reading s) (r.reading s)
-    here s e = cond-true (ltb s (n + 1)) _ (r.reading s) (lt-ltb s (n + 1) (omega arith))
+write_at : (s n : ℕ) (v : ℤ) (loaded kept : Option ℤ) → (s ≡ n → loaded ≡ Some v) → cond (eqb s n) (Some v) (cond (ltb s n) (or_kept loaded kept) kept) ≡ cond (ltb s (n + 1)) (or_kept loaded kept) kept
+write_at s n v loaded kept some = grind (arith, nat_tests)
 
-    before : (s : ℕ) → s ≡ n → (taken n source r).reading s ≡ r.reading s
-    before s e = cond-false (ltb s n) (or_kept (source.reading s) (r.reading s)) (r.reading s) (le-ltb s n (omega arith))
+-- no station of the source, and nothing is taken
+pub taken_none : (source r : Readings) → r ≡ taken 0 source r
+taken_none source r =
+    same_readings r.reading (taken 0 source r).reading r.tolerance
+    (λ s. none_at s (source.reading s) (r.reading s))
 
-    other : (s : ℕ) → (s ≡ n → ⊥) → (taken n source r).reading s ≡ (taken (n + 1) source r).reading s
-    other s d = ap (λ (b : Bool). cond b (or_kept (source.reading s) (r.reading s)) (r.reading s)) (same_test s d)
+module _ (source r : Readings) (n : ℕ) where
+  -- a station at which the source has none
+  pub taken_skip : source.reading n ≡ None → taken n source r ≡ taken (n + 1) source r
+  taken_skip none =
+      same_readings (taken n source r).reading (taken (n + 1) source r).reading r.tolerance
+      (λ s. skip_at s n (source.reading s) (r.reading s) (λ e. ap source.reading e ∙ none))
 
-    -- a station at which the source has none
-    pub taken_skip : source.reading n ≡ None → taken n source r ≡ taken (n + 1) source r
-    taken_skip none =
-        same_readings (taken n source r).reading (taken (n + 1) source r).reading r.tolerance
-        (λ s. ⊎_elim
-        (λ e. before s e ∙ sym (here s e ∙ ap (λ (o : Option ℤ). or_kept o (r.reading s)) (ap source.reading e ∙ none)))
-        (other s) (cases_eq s n))
-
-    -- a station at which it has one
-    pub taken_more : (v : ℤ) → source.reading n ≡ Some v → with_value n v (taken n source r) ≡ taken (n + 1) source r
-    taken_more v some =
-        same_readings (with_value n v (taken n source r)).reading (taken (n + 1) source r).reading r.tolerance
-        (λ s. ⊎_elim
-        (λ e. cond-true (eqb s n) (Some v) _ (eq-eqb s n e) ∙ sym (here s e ∙ ap (λ (o : Option ℤ). or_kept o (r.reading s)) (ap source.reading e ∙ some)))
-        (λ d. cond-false (eqb s n) (Some v) _ (ne_eqb s n d) ∙ other s d) (cases_eq s n))
-
-  -- all stations to L
-  pub taken_all : (n L : ℕ) → n ≡ L + 1 → taken n source r ≡ with_readings L source r
-  taken_all n L en =
-      same_readings (taken n source r).reading (with_readings L source r).reading r.tolerance
-      (λ s. ap (λ (b : Bool). cond b (or_kept (source.reading s) (r.reading s)) (r.reading s)) (within s))
-    where
-      within : (s : ℕ) → ltb s n ≡ leb s L
-      within s = grind (arith, nat_tests)
+  -- a station at which it has one
+  pub taken_more : (v : ℤ) → source.reading n ≡ Some v → with_value n v (taken n source r) ≡ taken (n + 1) source r
+  taken_more v some =
+      same_readings (with_value n v (taken n source r)).reading (taken (n + 1) source r).reading r.tolerance
+      (λ s. write_at s n v (source.reading s) (r.reading s) (λ e. ap source.reading e ∙ some))

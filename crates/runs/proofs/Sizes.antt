@@ -2,6 +2,7 @@
 use Rattle.std.proofs.Common.{◌≡◌, ℕ, ◌*◌, ◌^◌, ◌<◌, ◌≤◌, ℤ, pos, ◌*ℤ◌, nat_abs, ◌≤ℤ◌, Some, None, Option, sym, refl, ap, mul-le-mul, arith}
 use lib.IntN.{*ℤ_comm}
 use borrow.Author.Differences.{ints, le_out}
+use Rattle.std.proofs.lemmas.Int.{unsigned_abs-mul}
 use Rattle.algebra.specs.Sums.{sum, abs}
 use Rattle.algebra.proofs.Sums.{sum_scale}
 use Rattle.algebra.proofs.Absolute.{◌≤∙◌, ≤ℤ_of_eq, ≤ℤ_scale, abs_mul, abs_sum, sum_le, sum_abs_more}
@@ -11,7 +12,7 @@ use Rattle.runs.specs.Totals.{value_of}
 
 -- a product is as large as the product of the sizes
 pub product_bound : (a b : ℕ) (x y : ℤ) → nat_abs x ≤ a → nat_abs y ≤ b → nat_abs (x *ℤ y) ≤ a * b
-product_bound a b x y h k = rw (ap nat_abs (abs_mul x y)) (mul-le-mul h k)
+product_bound a b x y h k = rw (unsigned_abs-mul x y) (mul-le-mul h k)
 
 pub value_bound : (o : Option ℤ) → ((v : ℤ) → o ≡ Some v → nat_abs v ≤ 1048576) → nat_abs (value_of o) ≤ 1048576
 value_bound (Some v) h = h v refl
@@ -39,3 +40,8 @@ sum_bound m r h k n l =
       where
         in_order : nat_abs v ≤ 1048576 → abs v ≤ℤ pos 1048576
         in_order l = omega (arith, ints)
+
+-- the radius that the absolute weights of some stations give
+pub radius_bound : (m : Meaning) (r : Readings) → Sound m → SoundReadings r → (n t : ℕ) (size : ℤ) → n ≤ m.weighting.stations → t ≡ r.tolerance → size ≡ sum n (λ s. abs (m.weighting.weight s)) → nat_abs (pos t *ℤ size) ≤ 2 ^ 60
+radius_bound m r h k n t size l et es =
+    product_bound (2 ^ 20) (2 ^ 40) (pos t) size (omega (arith, k.tolerance)) (omega (arith, ap nat_abs es, size_bound m h n l))

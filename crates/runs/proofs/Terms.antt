@@ -1,5 +1,5 @@
 -- What one station adds to a sum.
-use Rattle.std.proofs.Common.{◌≡◌, ℕ, ◌+◌, ◌^◌, ◌<◌, ◌≤◌, Bool, true, false, cond, ℤ, pos, ◌+ℤ◌, ◌*ℤ◌, nat_abs, Some, None, Ok, Option, Result, sym, refl, ap, ◌∙◌, ap₂, add-one, arith}
+use Rattle.std.proofs.Common.{◌≡◌, ℕ, ◌+◌, ◌^◌, ◌<◌, ◌≤◌, true, false, cond, ℤ, pos, ◌+ℤ◌, ◌*ℤ◌, nat_abs, Some, None, Ok, Option, Result, sym, ap, ◌∙◌, ap₂, add-one, arith}
 use Rattle.algebra.specs.Sums.{sum, abs}
 use Rattle.algebra.proofs.Sums.{sum_more}
 use Rattle.rules.specs.Meaning.{Meaning, Sound}
@@ -16,19 +16,11 @@ abbrev pub term_of : ℤ → Option ℤ → Option ℤ
 term_of w o = cond (lacks w o) None (Some (w *ℤ value_of o))
 
 -- an answer is there where nothing lacks, and then it is the product
-pub term_there : (w t : ℤ) (o : Option ℤ) → Some t ≡ term_of w o → (lacks w o ≡ false) × (t ≡ w *ℤ value_of o)
-term_there w t o e = there (lacks w o) e
-  where
-    there : (b : Bool) → Some t ≡ cond b None (Some (w *ℤ value_of o)) → (b ≡ false) × (t ≡ w *ℤ value_of o)
-    there true h = let z : ◌≡◌ {A = ℕ} 0 1 = cc in absurd (omega arith)
-    there false h = (refl, cc)
+term_there : (w t : ℤ) (o : Option ℤ) → Some t ≡ term_of w o → (lacks w o ≡ false) × (t ≡ w *ℤ value_of o)
+term_there w t o e = grind arith
 
-pub term_missing : (w : ℤ) (o : Option ℤ) → None ≡ term_of w o → lacks w o ≡ true
-term_missing w o e = missing (lacks w o) e
-  where
-    missing : (b : Bool) → None ≡ cond b None (Some (w *ℤ value_of o)) → b ≡ true
-    missing true h = refl
-    missing false h = let z : ◌≡◌ {A = ℕ} 0 1 = cc in absurd (omega arith)
+term_missing : (w : ℤ) (o : Option ℤ) → None ≡ term_of w o → lacks w o ≡ true
+term_missing w o e = grind arith
 
 -- the same at a station of a row of weights and readings
 station_there : (W : ℕ → ℤ) (R : ℕ → Option ℤ) (n : ℕ) (w t : ℤ) (o : Option ℤ) → w ≡ W n → o ≡ R n → Some t ≡ term_of w o → (lacks (W n) (R n) ≡ false) × (t ≡ W n *ℤ value_of (R n))

@@ -5,8 +5,6 @@ use Rattle.rules.specs.declared.fault.Cause.TheVariants.{ReadingRange, Tolerance
 use Rattle.rules.specs.declared.fault.Fault.{Fault}
 use Rattle.rules.specs.declared.fault.Origin.TheVariants.{Run}
 use Rattle.sources.specs.Readings.{Readings, is_in_range}
-use Rattle.runs.specs.declared.call.Reply.{Reply}
-use Rattle.runs.specs.declared.call.Reply.TheVariants.{Done, Result as Told, Refused}
 use Rattle.runs.specs.declared.estimate.Estimate.{Estimate}
 use Rattle.runs.specs.Changes.{nothing, with_value, without_value, with_tolerance, with_source}
 use Rattle.runs.specs.Totals.{lowest_empty, sum_of, fault_at, empty_station, given}
@@ -102,19 +100,15 @@ estimate_of m r = record {
 abbrev pub result_of : Meaning → Readings → Result Estimate Fault
 result_of m r = given (own_refusal m r asking) (estimate_of m r)
 
--- the reply to an accepted call
-abbrev pub accepted_reply : Meaning → Ledger → Entry → Reply
-accepted_reply m l (entering s v) = Done
-accepted_reply m l (striking s) = Done
-accepted_reply m l (declaring e) = Done
-accepted_reply m l (loading source) = Done
-accepted_reply m l publishing = Done
-accepted_reply m l asking = Told (estimate_of m l.readings)
-
-abbrev pub reply_unless_refused : Option Fault → Reply → Reply
-reply_unless_refused (Some f) reply = Refused f
-reply_unless_refused None reply = reply
+-- what an accepted call tells: the result where that is asked for
+abbrev pub accepted_reply : Meaning → Ledger → Entry → Option Estimate
+accepted_reply m l (entering s v) = None
+accepted_reply m l (striking s) = None
+accepted_reply m l (declaring e) = None
+accepted_reply m l (loading source) = None
+accepted_reply m l publishing = None
+accepted_reply m l asking = Some (estimate_of m l.readings)
 
 -- the reply to a call
-abbrev pub answer : Meaning → Ledger → Entry → Reply
-answer m l e = reply_unless_refused (refusal m l e) (accepted_reply m l e)
+abbrev pub answer : Meaning → Ledger → Entry → Result (Option Estimate) Fault
+answer m l e = given (refusal m l e) (accepted_reply m l e)

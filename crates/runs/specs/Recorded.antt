@@ -1,12 +1,9 @@
--- The ledger of a run, and its calls and replies.
-use Rattle.std.specs.Prelude.{Bool, true, false, Ok, Err, Result}
-use Rattle.rules.specs.declared.fault.Fault.{Fault}
+-- The ledger of a run, and what a call makes of a run.
+use Rattle.std.specs.Prelude.{◌≡◌, Bool, true, false}
+use Rattle.rules.specs.Meaning.{Meaning}
 use Rattle.sources.specs.Readings.{Readings}
 use Rattle.runs.specs.declared.call.Call.{Call}
 use Rattle.runs.specs.declared.call.Call.TheVariants.{Enter, Strike, Declare, Load, Publish, Result as Ask}
-use Rattle.runs.specs.declared.call.Reply.{Reply}
-use Rattle.runs.specs.declared.call.Reply.TheVariants.{Done, Result as Told, Refused}
-use Rattle.runs.specs.declared.estimate.Estimate.{Estimate}
 use Rattle.runs.specs.declared.run.Run.{Run}
 use Rattle.runs.specs.declared.run.State.{State}
 use Rattle.runs.specs.declared.run.State.TheVariants.{Gathering, Published}
@@ -30,11 +27,8 @@ entry_of told (Load source) = loading (told source)
 entry_of told Publish = publishing
 entry_of told Ask = asking
 
--- an outcome as a reply
-abbrev pub change_reply : Result (Unit {0}) Fault → Reply
-change_reply (Ok done) = Done
-change_reply (Err f) = Refused f
-
-abbrev pub result_reply : Result Estimate Fault → Reply
-result_reply (Ok estimate) = Told estimate
-result_reply (Err f) = Refused f
+-- what a call makes of a run over a rule that tells `told`: the reply and the ledger that `replies` and `steps` give; the rule stays
+pub record Performed {R A : Type 0} (told : R → Meaning) (replies : Meaning → Ledger → Entry → A) (steps : Meaning → Ledger → Entry → Ledger) (e : Entry) (old new : Run R) (result : A) : Type 0 where
+  pub reply : result ≡ replies (told old.rule) (ledger_of old) e
+  pub ledger : ledger_of new ≡ steps (told old.rule) (ledger_of old) e
+  pub rule : new.rule ≡ old.rule

@@ -3,7 +3,7 @@ use crate::estimate::Estimate;
 use rules::Fault;
 
 // A call with its arguments. Its source may be of any kind.
-#[derive(Drop)]
+#[derive(Drop, PartialEq, Debug)]
 pub enum Call<S> {
     Enter { station: usize, value: i64 },
     Strike { station: usize },
@@ -13,13 +13,5 @@ pub enum Call<S> {
     Result,
 }
 
-// What a call is answered.
-#[derive(Clone, Copy)]
-pub enum Reply {
-    // the change is made
-    Done,
-    // the result that was asked for
-    Result(Estimate),
-    // the first check that failed
-    Refused(Fault),
-}
+// What a call is answered: the result if that was asked for, nothing for a change that is made, or the first check that failed.
+pub type Reply = Result<Option<Estimate>, Fault>;

@@ -8,6 +8,7 @@ ghost use Rattle.sources.specs.Rows.{told};
 use sources::Row;
 
 // The ghost fields are the promises of a source, so that a run is totalled as any source is.
+// It stays here and not in `sources`: its changing methods have a `requires`, and a public function of this project may have none.
 #[derive(Drop)]
 pub struct Held {
     row: Row,

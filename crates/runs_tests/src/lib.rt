@@ -20,30 +20,22 @@ mod tests {
         Ok(run)
     }
 
-    fn names(
+    // A refusal is compared by its number and name, since a report prints these.
+    // Other crates of tests have the like: a crate for a few lines would stand below them all.
+    fn refused<T: Drop>(
         rt: &impl Abort,
-        fault: Fault,
+        reply: Result<T, Fault>,
         number: u8,
         layer: &str,
         place: usize,
     ) -> Result<(), Fail> {
+        let Err(fault) = reply else {
+            return Err(Fail::new("not refused"));
+        };
         assert_eq!(rt; fault.cause.number(), number);
         assert_eq!(rt; fault.layer.name(), layer);
         assert_eq!(rt; fault.place, place);
         Ok(())
-    }
-
-    fn refused(
-        rt: &impl Abort,
-        reply: Result<(), Fault>,
-        number: u8,
-        layer: &str,
-        place: usize,
-    ) -> Result<(), Fail> {
-        match reply {
-            Err(fault) => names(rt, fault, number, layer, place),
-            Ok(()) => Err(Fail::new("accepted")),
-        }
     }
 
     fn tells(
@@ -53,11 +45,12 @@ mod tests {
         radius: i64,
         degree: usize,
     ) -> Result<(), Fail> {
-        let estimate = reply?;
-        assert_eq!(rt; estimate.value.0, value.0);
-        assert_eq!(rt; estimate.value.1, value.1);
-        assert_eq!(rt; estimate.radius, radius);
-        assert_eq!(rt; estimate.degree, degree);
+        let told = Estimate {
+            value,
+            radius,
+            degree,
+        };
+        assert_eq!(rt; reply?, told);
         Ok(())
     }
 
@@ -104,10 +97,7 @@ mod tests {
     }
 
     fn is_apart(reply: Result<Verdict, Fault>) -> Result<bool, Fail> {
-        match reply? {
-            Verdict::Apart => Ok(true),
-            Verdict::Meet => Ok(false),
-        }
+        Ok(reply? == Verdict::Apart)
     }
 
     // Two trapezoids, each with two readings and a tolerance: the band is (a + b)/2 within the tolerance.
@@ -219,27 +209,14 @@ mod tests {
         Ok(())
     }
 
-    fn no_verdict(
-        rt: &impl Abort,
-        reply: Result<Verdict, Fault>,
-        number: u8,
-        layer: &str,
-        place: usize,
-    ) -> Result<(), Fail> {
-        match reply {
-            Err(fault) => names(rt, fault, number, layer, place),
-            Ok(_) => Err(Fail::new("judged")),
-        }
-    }
-
     #[test]
     fn verdicts_that_are_refused(rt: HostRuntime) -> Result<(), Fail> {
         let whole = run_over(BuiltIn::Simpson, &[1, 2, 3], 0)?;
         let lacking = run_over(BuiltIn::Simpson, &[1], 0)?;
         let longer = Run::new(BuiltIn::ThreeEighths);
-        no_verdict(&rt, lacking.verdict(&longer), 22, "RUN", 0)?;
-        no_verdict(&rt, lacking.verdict(&lacking), 21, "RUN", 1)?;
-        no_verdict(&rt, whole.verdict(&lacking), 21, "OTHER", 1)
+        refused(&rt, lacking.verdict(&longer), 22, "RUN", 0)?;
+        refused(&rt, lacking.verdict(&lacking), 21, "RUN", 1)?;
+        refused(&rt, whole.verdict(&lacking), 21, "OTHER", 1)
     }
 
     #[test]
@@ -275,14 +252,10 @@ mod tests {
         let mut square = Polynomial::new();
         square.set(&[0, 0, 1])?;
         let sum = total(&BuiltIn::Boole, &square)?;
-        assert_eq!(rt; sum.value.0, 960);
-        assert_eq!(rt; sum.value.1, 45);
+        assert_eq!(rt; sum.value, (960, 45));
         assert_eq!(rt; sum.radius, 0);
         // 1,048,576 at station 1, and no reading from station 2 on
         square.set(&[0, 1048576])?;
-        match total(&BuiltIn::Boole, &square) {
-            Err(fault) => names(&rt, fault, 21, "RUN", 2),
-            Ok(_) => Err(Fail::new("a total")),
-        }
+        refused(&rt, total(&BuiltIn::Boole, &square), 21, "RUN", 2)
     }
 }

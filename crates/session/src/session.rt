@@ -2,6 +2,7 @@
 ghost use Rattle.std.specs.Prelude.{◌≡◌, ◌≤◌, length, take, drop};
 ghost use Rattle.session.specs.Sessions.{estimated, reported};
 
+use crate::input::Input;
 use crate::order::Order;
 use report::{Written, write_refusal, write_result};
 use rules::Fault;
@@ -9,23 +10,24 @@ use runs::{Estimate, Run};
 use sources::Survey;
 
 // The result of a new run over the pile that is ordered, with the survey loaded.
-pub fn estimate(order: &[u8], survey: &[u8]) -> Result<Estimate, Fault>
-    ensures { result ≡ estimated order.now survey.now }
+pub fn estimate(input: Input) -> Result<Estimate, Fault>
+    ensures { result ≡ estimated input.entry.order.now input.entry.survey.now }
 {
-    let pile = Order::read(order)?.pile()?;
-    let readings = Survey::read(survey)?;
+    let pile = Order::read(input.order)?.pile()?;
+    let readings = Survey::read(input.survey)?;
     let mut run = Run::new(pile);
     run.load(&readings)?;
     run.result()
 }
 
 // Writes the result, or the refusal, as one line into the buffer. Where the line does not fit the buffer stays as it was.
-pub fn report(order: &[u8], survey: &[u8], out: &mut [u8]) -> Written
-    ensures buffer { out.new ≡ (reported (estimated order.now survey.now) out.old).buffer }
-    ensures report { result ≡ (reported (estimated order.now survey.now) out.old).report }
+// `within` ties the reply to the buffer, which no type holds together; a caller cuts the line out by it.
+pub fn report(input: Input, out: &mut [u8]) -> Written
+    ensures buffer { out.new ≡ (reported (estimated input.entry.order.now input.entry.survey.now) out.old).buffer }
+    ensures report { result ≡ (reported (estimated input.entry.order.now input.entry.survey.now) out.old).report }
     ensures within { result.len ≤ length out.old }
 {
-    match estimate(order, survey) {
+    match estimate(input) {
         Ok(estimate) => write_result(
             out,
             estimate.value.0,
@@ -37,17 +39,11 @@ pub fn report(order: &[u8], survey: &[u8], out: &mut [u8]) -> Written
     }
 }
 
-// The bytes of an order before those of a survey.
-const ORDER_BYTES: usize = 6;
-
 // The same with order and survey in one input. An input shorter than an order is a short order.
 pub fn answer(input: &[u8], out: &mut [u8]) -> Written
     ensures buffer { out.new ≡ (reported (estimated (take 6 input.now) (drop 6 input.now)) out.old).buffer }
     ensures report { result ≡ (reported (estimated (take 6 input.now) (drop 6 input.now)) out.old).report }
     ensures within { result.len ≤ length out.old }
 {
-    if input.len() < ORDER_BYTES {
-        return report(input, &input[0..0], out);
-    }
-    report(&input[0..ORDER_BYTES], &input[ORDER_BYTES..], out)
+    report(Input::split(input), out)
 }

@@ -5,7 +5,7 @@
 mod tests {
     use report::{Written, write_refusal};
     use rules::Rule;
-    use session::{Order, answer, estimate, report};
+    use session::{Input, Order, answer, estimate, report};
     use std::alloc::Global;
     use std::process::Abort;
     use std::test::Fail;
@@ -27,12 +27,11 @@ mod tests {
     ];
 
     // The line stands in front, and the rest of the buffer is as it was.
+    // Other crates of tests have the like: a crate for a few lines would stand below them all.
     fn holds(rt: &impl Abort, out: &[u8], text: &str) {
         assert!(rt; text.len() <= out.len());
-        assert_eq!(rt; &out[0..text.len()], text.as_bytes());
-        for byte in &out[text.len()..out.len()] {
-            assert_eq!(rt; *byte, GUARD);
-        }
+        assert_eq!(rt; &out[..text.len()], text.as_bytes());
+        assert!(rt; out[text.len()..].iter().all(|byte| *byte == GUARD));
     }
 
     // No fault with a result, and with a refusal the fault that its line tells.
@@ -49,7 +48,7 @@ mod tests {
 
     fn gives(rt: &impl Abort, order: &[u8], survey: &[u8], text: &str) -> Result<(), Fail> {
         let mut out = [GUARD; 96];
-        let written = report(order, survey, &mut out);
+        let written = report(Input { order, survey }, &mut out);
         assert_eq!(rt; written.len, text.len());
         tells(rt, written, text)?;
         holds(rt, &out, text);
@@ -62,15 +61,6 @@ mod tests {
             gives(rt, order, survey, text)?;
         }
         Ok(())
-    }
-
-    // The stations below `count`.
-    fn stations_below(heap: Global, count: u16) -> Result<Vec<u16>, Fail> {
-        let mut stations = Vec::new(heap);
-        for station in 0..count {
-            stations.push(station)?;
-        }
-        Ok(stations)
     }
 
     // The bytes of a survey.
@@ -102,7 +92,7 @@ mod tests {
     ) -> Result<Vec<u8>, Fail> {
         assert!(rt; readings.len() <= 1025);
         let count = readings.len() as u16;
-        let stations = stations_below(heap, count)?;
+        let stations: Vec<u16> = (0..count).collect(heap)?;
         survey_of(heap, count, tolerance, stations.as_slice(), readings)
     }
 
@@ -249,11 +239,12 @@ mod tests {
 
     // Readings that rise to the greatest at the last station.
     fn slope(heap: Global) -> Result<Vec<i32>, Fail> {
-        let mut readings = Vec::new(heap);
-        for station in 0..1025_u16 {
-            readings.push(1024 * i32::from(station))?;
-        }
-        Ok(readings)
+        let stations = 0..1025_u16;
+        Ok(
+            stations
+                .map(|station| 1024 * i32::from(station))
+                .collect(heap)?,
+        )
     }
 
     // The longest survey, with the greatest tolerance.
@@ -315,7 +306,7 @@ mod tests {
         Ok(())
     }
 
-    // The result needs 11 bytes, and the refusal 19.
+    // The result needs 11 bytes, and the refusal 19: every smaller number is a case.
     #[test]
     fn buffers_too_short(rt: HostRuntime) -> Result<(), Fail> {
         for room in 0..11 {
@@ -344,14 +335,17 @@ mod tests {
     // The cubes, and what becomes of them without the station 3.
     #[test]
     fn cubes(rt: HostRuntime) -> Result<(), Fail> {
-        gives(&rt, &CUBES[0..6], &CUBES[6..42], "384 6 3 24\n")?;
+        gives(&rt, &CUBES[..6], &CUBES[6..], "384 6 3 24\n")?;
         let survey = survey_of(rt.alloc(), 4, 1, &[0, 1, 2, 4], &[0, 1, 8, 64])?;
-        gives(&rt, &CUBES[0..6], survey.as_slice(), "REFUSED 21 RUN 3\n")
+        gives(&rt, &CUBES[..6], survey.as_slice(), "REFUSED 21 RUN 3\n")
     }
 
     #[test]
     fn estimate_of_cubes(rt: HostRuntime) -> Result<(), Fail> {
-        let estimate = estimate(&CUBES[0..6], &CUBES[6..42])?;
+        let estimate = estimate(Input {
+            order: &CUBES[..6],
+            survey: &CUBES[6..],
+        })?;
         assert_eq!(rt; estimate.value, (384, 6));
         assert_eq!(rt; estimate.degree, 3);
         assert_eq!(rt; estimate.radius, 24);

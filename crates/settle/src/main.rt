@@ -15,10 +15,10 @@ fn main(rt: HostRuntime) -> io::Result<()> {
     let pair = split(input.as_slice());
     // every line fits
     let mut line = [0; 96];
-    let len = report(pair.first_order, pair.first_survey, &mut line).len;
-    rt.stdout().write_all(&line[0..len])?;
-    let len = report(pair.second_order, pair.second_survey, &mut line).len;
-    rt.stdout().write_all(&line[0..len])?;
+    for input in [pair.first, pair.second] {
+        let len = report(input, &mut line).len;
+        rt.stdout().write_all(&line[0..len])?;
+    }
     let len = write_verdict(&mut line, verdict(pair)).len;
     rt.stdout().write_all(&line[0..len])
 }

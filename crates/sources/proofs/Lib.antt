@@ -1,6 +1,5 @@
 pub mod Horner
-pub mod Padding
-pub mod RowFacts
+pub mod RowFilling
 pub mod Searches
 pub mod Steps
 pub mod Writing

@@ -27,4 +27,4 @@ step_table_of starts values =
 
 -- what a step table that was made tells
 abbrev pub tabled : StepTable → Readings
-tabled t = record { reading = told t.row; tolerance = 0 }
+tabled t = record { reading = told t.readings.row; tolerance = 0 }

@@ -4,7 +4,8 @@ ghost use Rattle.std.proofs.Common.{rules};
 
 use crate::source::Source;
 
-#[derive(Drop)]
+// An enum of its own: First and Second are what callers write, and the kit's `Either` has other names and dozens of methods that no source needs.
+#[derive(Debug, PartialEq, Eq, Clone, Copy, Drop)]
 pub enum Either<F, S> {
     First(F),
     Second(S),

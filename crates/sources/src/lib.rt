@@ -5,6 +5,7 @@ mod checks;
 mod either;
 mod polynomial;
 mod row;
+mod sound_row;
 mod source;
 mod step_table;
 mod survey;

@@ -9,7 +9,7 @@ pub const READING_LIMIT: i64 = 1_048_576;
 // The greatest tolerance.
 pub const TOLERANCE_LIMIT: u64 = 1_048_576;
 // The tolerance of readings that are exact.
-pub const EXACT: u64 = 0;
+pub(crate) const EXACT: u64 = 0;
 
 // Readings at some of the stations 0 to 1,024 and one tolerance for all. What the answers mean is `meaning`, and the law says what every source promises of it.
 // A question changes nothing, and the same question gets the same answer, since each answer is given by the meaning.

@@ -6,49 +6,47 @@ ghost use Rattle.sources.specs.Surveys.{surveyed};
 ghost use Rattle.claims.specs.Histories.{replies_from};
 ghost use Rattle.battenlime.specs.Replays.{entry_meant, reply_shown};
 
-use crate::records::{CallRecord, EstimateRecord, estimate_record, refusal_record};
+use crate::records::{CallRecord, EstimateRecord};
 use rules::Table;
 use runs::{Call, Reply, Run};
 use sources::Survey;
 
 // The call that a record stands for.
-fn call_meant(call: CallRecord) -> Call<Survey>
-    ensures { entry_of surveyed result ≡ entry_meant call }
-{
-    match call.kind {
-        1 => Call::Enter {
-            station: call.station,
-            value: call.value,
-        },
-        2 => Call::Strike {
-            station: call.station,
-        },
-        3 => Call::Declare {
-            tolerance: call.tolerance,
-        },
-        4 => Call::Publish,
-        _ => Call::Result,
+impl From<CallRecord> for Call<Survey> {
+    ghost from_gives = { λ call meant. entry_of surveyed meant ≡ entry_meant call };
+
+    fn from(call: CallRecord) -> Call<Survey> {
+        match call.kind {
+            1 => Call::Enter {
+                station: call.station,
+                value: call.value,
+            },
+            2 => Call::Strike {
+                station: call.station,
+            },
+            3 => Call::Declare {
+                tolerance: call.tolerance,
+            },
+            4 => Call::Publish,
+            _ => Call::Result,
+        }
     }
 }
 
 // A reply as a record: zeros for a change that is made.
-fn reply_record(reply: Reply) -> EstimateRecord
-    ensures { result ≡ reply_shown reply }
-{
-    match reply {
-        Reply::Done => EstimateRecord {
-            numerator: 0,
-            denominator: 0,
-            radius: 0,
-            degree: 0,
-            refusal: refusal_record(None),
-        },
-        Reply::Result(estimate) => estimate_record(Ok(estimate)),
-        Reply::Refused(fault) => estimate_record(Err(fault)),
+impl From<Reply> for EstimateRecord {
+    ghost from_gives = { λ reply shown. shown ≡ reply_shown reply };
+
+    fn from(reply: Reply) -> EstimateRecord {
+        match reply.transpose() {
+            Some(told) => told.into(),
+            None => EstimateRecord::default(),
+        }
     }
 }
 
 // Performs the calls one after the other; there is a place for each reply.
+// The loop of `claims` has other types of call and of reply: one function for both would be a trait of two ghost members, longer than this.
 pub(super) fn perform_all(
     run: &mut Run<Table>,
     calls: &[CallRecord],
@@ -57,7 +55,8 @@ pub(super) fn perform_all(
     requires { length calls.now ≤ length replies.old }
     ensures { replies.new ≡ map reply_shown (replies_from (told_by run.old.rule) (ledger_of run.old) (map entry_meant calls.now)) ++ drop (length calls.now) replies.old }
 {
+    // tried `replies.iter_mut().zip(calls)`, after which a proof knows nothing of what the places hold
     for (index, call) in calls.iter().enumerate() {
-        replies[index] = reply_record(run.perform(&call_meant(*call)));
+        replies[index] = run.perform(&Call::from(*call)).into();
     }
 }

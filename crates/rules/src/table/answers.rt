@@ -1,6 +1,5 @@
 // A table answers from its fields.
 ghost use Rattle.rules.specs.Tables.{told};
-ghost use Rattle.std.proofs.Common.{rules, arith};
 
 use super::Table;
 use crate::rule::Rule;
@@ -8,7 +7,7 @@ use crate::rule::Rule;
 impl Rule for Table {
     ghost meaning = { told };
 
-    ghost sound = { first_of (Prim.search rules, Prim.grind (arith, Self.row.coded.inj)) };
+    ghost sound = { λ table. table.sound };
 
     fn span(&self) -> usize {
         self.span

@@ -22,7 +22,7 @@ impl BandEnd {
         self.numerator.rem_euclid(self.denominator as i64) as u64
     }
 
-    // Whether this end is less than the other.
+    // Whether this end is less than the other. No `PartialOrd`: it orders by value, and needs an equality by value beside it, by which 1/2 and 2/4 are one though their fields differ.
     pub(crate) fn is_below(&self, other: &BandEnd) -> bool
         ensures { result ≡ below (fraction_of self.now) (fraction_of other.now) }
     {

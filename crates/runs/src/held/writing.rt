@@ -19,7 +19,8 @@ impl Held {
 
     // Writes the reading of a station.
     pub(crate) fn put(&mut self, station: usize, value: i64)
-        requires { (station ≤ 1024) × (unsigned_abs value ≤ 1048576) }
+        requires station { station ≤ 1024 }
+        requires value { unsigned_abs value ≤ 1048576 }
         ensures { readings_held self.new ≡ with_value station value (readings_held self.old) }
     {
         self.row.put(station, value);
@@ -45,6 +46,7 @@ impl Held {
         requires { last ≤ 1024 }
         ensures { readings_held self.new ≡ with_readings last (S.meaning source.now) (readings_held self.old) }
     {
+        // a source is asked by station; tried `..=`, which leaves the loop in two places that each need the whole proof
         for station in 0..last + 1 {
             if let Some(value) = source.reading(station) {
                 self.put(station, value);

@@ -4,6 +4,7 @@ ghost use Rattle.runs.specs.Ledger.{blank, result_of};
 ghost use Rattle.runs.specs.Recorded.{ledger_of};
 
 use super::{Run, State};
+use crate::band::Band;
 use crate::estimate::Estimate;
 use crate::held::Held;
 use crate::sum::total;
@@ -26,10 +27,10 @@ impl<R: Rule> Run<R> {
     pub fn result(&self) -> Result<Estimate, Fault>
         ensures { result ≡ result_of (R.meaning self.now.rule) (ledger_of self.now).readings }
     {
-        let total = total(&self.rule, &self.held)?;
+        let Band { value, radius } = total(&self.rule, &self.held)?;
         Ok(Estimate {
-            value: total.value,
-            radius: total.radius,
+            value,
+            radius,
             degree: self.rule.degree(),
         })
     }

@@ -7,35 +7,32 @@ use crate::band_end::BandEnd;
 use crate::estimate::Estimate;
 
 impl Estimate {
-    // Where the band begins.
-    fn low_end(&self) -> BandEnd
+    // Where the band begins, and where it ends.
+    fn ends(&self) -> (BandEnd, BandEnd)
         requires { Bounded self.now }
-        ensures { fraction_of result ≡ low_end self.now }
+        ensures low { fraction_of result.0 ≡ low_end self.now }
+        ensures high { fraction_of result.1 ≡ high_end self.now }
     {
-        let (numerator, denominator) = self.value;
-        BandEnd {
-            numerator: numerator - self.radius,
+        let (value, denominator) = self.value;
+        let low = BandEnd {
+            numerator: value - self.radius,
             denominator,
-        }
-    }
-
-    // Where it ends.
-    fn high_end(&self) -> BandEnd
-        requires { Bounded self.now }
-        ensures { fraction_of result ≡ high_end self.now }
-    {
-        let (numerator, denominator) = self.value;
-        BandEnd {
-            numerator: numerator + self.radius,
+        };
+        let high = BandEnd {
+            numerator: value + self.radius,
             denominator,
-        }
+        };
+        (low, high)
     }
 
     // Whether one of two closed bands ends below where the other begins.
     pub(crate) fn is_apart_from(&self, other: &Estimate) -> bool
-        requires { (Bounded self.now) × (Bounded other.now) }
+        requires first { Bounded self.now }
+        requires second { Bounded other.now }
         ensures { result ≡ bands_apart self.now other.now }
     {
-        self.high_end().is_below(&other.low_end()) || other.high_end().is_below(&self.low_end())
+        let (low, high) = self.ends();
+        let (other_low, other_high) = other.ends();
+        high.is_below(&other_low) || other_high.is_below(&low)
     }
 }

@@ -9,7 +9,6 @@ ghost use Rattle.runs.specs.Verdicts.{Separates, verdict_of};
 use super::Verdict;
 use crate::estimate::Estimate;
 use crate::run::Run;
-use crate::sum::fault;
 use rules::{Cause, Fault, Origin, Rule};
 
 impl<R: Rule> Run<R> {
@@ -17,21 +16,19 @@ impl<R: Rule> Run<R> {
     fn result_as_other(&self) -> Result<Estimate, Fault>
         ensures { result ≡ given (empty_station Other (lowest_empty (R.meaning self.now.rule).weighting (ledger_of self.now).readings)) (estimate_of (R.meaning self.now.rule) (ledger_of self.now).readings) }
     {
-        match self.result() {
-            Ok(estimate) => Ok(estimate),
-            Err(fault) => Err(Fault {
-                layer: Origin::Other,
-                ..fault
-            }),
-        }
+        self.result().map_err(|fault| Fault {
+            layer: Origin::Other,
+            ..fault
+        })
     }
 
-    // Judges by the ends of the bands.
-    fn judged<Q: Rule>(&self, other: &Run<Q>) -> Result<Verdict, Fault>
-        ensures { result ≡ verdict_of (R.Rule.meaning self.now.rule) (ledger_of self.now) (Q.Rule.meaning other.now.rule) (ledger_of other.now) }
+    // Whether the results of two runs over the same span tell their integrals apart, by the ends of the bands.
+    pub fn verdict<Q: Rule>(&self, other: &Run<Q>) -> Result<Verdict, Fault>
+        ensures value { result ≡ verdict_of (R.Rule.meaning self.now.rule) (ledger_of self.now) (Q.Rule.meaning other.now.rule) (ledger_of other.now) }
+        ensures bands { Separates (R.Rule.meaning self.now.rule) (ledger_of self.now) (Q.Rule.meaning other.now.rule) (ledger_of other.now) result }
     {
         if self.span() != other.span() {
-            return Err(fault(Cause::SpansDiffer, 0));
+            return Err(Origin::Run.fault(Cause::SpansDiffer, 0));
         }
         let first = self.result()?;
         let second = other.result_as_other()?;
@@ -40,13 +37,5 @@ impl<R: Rule> Run<R> {
         } else {
             Ok(Verdict::Meet)
         }
-    }
-
-    // Whether the results of two runs over the same span tell their integrals apart.
-    pub fn verdict<Q: Rule>(&self, other: &Run<Q>) -> Result<Verdict, Fault>
-        ensures value { result ≡ verdict_of (R.Rule.meaning self.now.rule) (ledger_of self.now) (Q.Rule.meaning other.now.rule) (ledger_of other.now) }
-        ensures bands { Separates (R.Rule.meaning self.now.rule) (ledger_of self.now) (Q.Rule.meaning other.now.rule) (ledger_of other.now) result }
-    {
-        self.judged(other)
     }
 }

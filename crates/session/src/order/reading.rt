@@ -1,5 +1,5 @@
 // From the bytes of an order to its pile.
-ghost use Rattle.std.specs.Prelude.{◌≡◌, ◌≤◌, take};
+ghost use Rattle.std.specs.Prelude.{◌≡◌};
 ghost use Rattle.std.specs.Result.{result_map_both};
 ghost use Rattle.rules.specs.BuiltIn.{meaning_of_row, row_of};
 ghost use Rattle.rules.specs.Tables.{told as told_by};
@@ -7,22 +7,12 @@ ghost use Rattle.layers.specs.Layers.{piling, reached};
 ghost use Rattle.session.specs.Orders.{base_of, layers_of, order_of, parts};
 
 use super::Order;
+use arrayvec::ArrayVec;
 use layers::{Layer, lay, pile};
 use rules::{BuiltIn, Cause, Fault, Origin, Table};
 
 // The most refinements that an order may ask for.
 const MOST_REFINEMENTS: u8 = 5;
-
-// A refusal of an order.
-fn refused(cause: Cause, place: usize) -> Fault
-    ensures { result ≡ record { cause = cause; layer = Origin.Order; place = place } }
-{
-    Fault {
-        cause,
-        layer: Origin::Order,
-        place,
-    }
-}
 
 impl Order {
     // Six bytes: base code, refinements, then stretch and panels in two bytes each, the high one first.
@@ -38,11 +28,11 @@ impl Order {
             panels_low,
         ] = bytes
         else {
-            return Err(refused(Cause::ByteLength, 0));
+            return Err(Origin::Order.fault(Cause::ByteLength, 0));
         };
-        let base = BuiltIn::from_code(*code)?;
+        let base = BuiltIn::try_from(*code)?;
         if *refinements > MOST_REFINEMENTS {
-            return Err(refused(Cause::NotOffered, 1));
+            return Err(Origin::Order.fault(Cause::NotOffered, 1));
         }
         Ok(Order {
             base,
@@ -59,15 +49,15 @@ impl Order {
         self.base
     }
 
-    // The layers from the bottom, and how many places of the array they take.
-    pub fn layers(self) -> ([Layer; 7], usize)
-        ensures listed { take result.1 result.0 ≡ layers_of (parts self) }
-        ensures within { result.1 ≤ 7 }
+    // The layers from the bottom.
+    pub fn layers(self) -> ArrayVec<Layer, 7>
+        ensures { result.items ≡ layers_of (parts self) }
     {
-        let mut layers = [Layer::Refinement; 7];
-        layers[self.refinements] = Layer::Stretch(self.stretch);
-        layers[self.refinements + 1] = Layer::Panels(self.panels);
-        (layers, self.refinements + 2)
+        let mut layers = ArrayVec::from([Layer::Refinement; 7]);
+        layers.truncate(self.refinements);
+        layers.push(Layer::Stretch(self.stretch));
+        layers.push(Layer::Panels(self.panels));
+        layers
     }
 
     // Lays the layers that are ordered on the rule that a table holds. At a refusal the layers before it stay.
@@ -75,15 +65,13 @@ impl Order {
         ensures reply { result_map_both (λ _. told_by table.new) (λ e. e) result ≡ piling (layers_of (parts self)) 1 (told_by table.old) }
         ensures table { told_by table.new ≡ reached (layers_of (parts self)) (told_by table.old) }
     {
-        let (layers, count) = self.layers();
-        lay(table, &layers[0..count])
+        lay(table, &self.layers())
     }
 
     // The pile that is ordered.
     pub fn pile(self) -> Result<Table, Fault>
         ensures { result_map_both told_by (λ e. e) result ≡ piling (layers_of (parts self)) 1 (base_of (parts self)) }
     {
-        let (layers, count) = self.layers();
-        pile(self.base(), &layers[0..count])
+        pile(self.base(), &self.layers())
     }
 }

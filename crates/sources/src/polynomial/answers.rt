@@ -3,12 +3,12 @@ ghost use Rattle.std.specs.Prelude.{◌≡◌, ◌≤◌, ◌&&◌, pos, ◌+ℤ
 ghost use Rattle.sources.specs.Polynomials.{coefficient_of, polynomial_at, read_off};
 ghost use Rattle.std.proofs.Common.{rules, arith};
 
-use super::{COEFFICIENTS, Polynomial};
+use super::Polynomial;
 use crate::checks::is_in_range;
 use crate::source::{EXACT, LAST_STATION, Source};
 
 // At a station above 1 no value in range comes after a step beyond this: a step at least doubles the size and adds at most 1,048,576 to it.
-const STEP_LIMIT: i64 = 2_097_152;
+const STEP_LIMIT: u64 = 2_097_152;
 
 // One step of Horner's scheme.
 fn step(value: i64, station: usize, coefficient: i64) -> i64
@@ -24,7 +24,7 @@ fn step(value: i64, station: usize, coefficient: i64) -> i64
 fn has_left(value: i64, station: usize) -> bool
     ensures { result ≡ nat_lt 1 station && nat_lt 2097152 (unsigned_abs value) }
 {
-    station > 1 && (value < -STEP_LIMIT || value > STEP_LIMIT)
+    station > 1 && value.unsigned_abs() > STEP_LIMIT
 }
 
 impl Polynomial {
@@ -34,17 +34,13 @@ impl Polynomial {
         ensures { result ≡ polynomial_at (coefficient_of self.now) station }
     {
         let mut value = 0;
-        for power in (0..COEFFICIENTS).rev() {
-            value = step(value, station, self.coefficients[power]);
+        for coefficient in self.coefficients.iter().rev() {
+            value = step(value, station, *coefficient);
             if has_left(value, station) {
                 return None;
             }
         }
-        if is_in_range(value) {
-            Some(value)
-        } else {
-            None
-        }
+        is_in_range(value).then_some(value)
     }
 }
 

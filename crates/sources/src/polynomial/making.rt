@@ -4,18 +4,16 @@ ghost use Rattle.sources.specs.Polynomials.{coefficient_of, zero_coefficient, se
 ghost use Rattle.sources.specs.Searches.{value_of};
 
 use super::{COEFFICIENTS, Polynomial};
-use crate::checks::{fault, first_out_of_range};
-use rules::{Cause, Fault};
+use crate::checks::first_out_of_range;
+use rules::{Cause, Fault, Origin};
 
-// A list of coefficients with zeros after it.
+// A list of coefficients with zeros after it. `rules` has the like for another size; one function for both would be public and would have to say what becomes of a longer list.
 fn padded(coefficients: &[i64]) -> [i64; 12]
     requires { length coefficients.now ≤ 12 }
     ensures { (i : ℕ) → slice_index_or result i (pos 0) ≡ value_of coefficients.now i }
 {
     let mut all = [0; 12];
-    for (power, coefficient) in coefficients.iter().enumerate() {
-        all[power] = *coefficient;
-    }
+    all[..coefficients.len()].copy_from_slice(coefficients);
     all
 }
 
@@ -35,10 +33,10 @@ impl Polynomial {
         ensures after { coefficient_of self.new ≡ set_coefficient coefficients.now (coefficient_of self.old) }
     {
         if coefficients.len() > COEFFICIENTS {
-            return Err(fault(Cause::CoefficientCount, 0));
+            return Err(Origin::Source.fault(Cause::CoefficientCount, 0));
         }
         if let Some(place) = first_out_of_range(coefficients) {
-            return Err(fault(Cause::ReadingRange, place));
+            return Err(Origin::Source.fault(Cause::ReadingRange, place));
         }
         self.coefficients = padded(coefficients);
         Ok(())

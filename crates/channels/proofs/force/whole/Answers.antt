@@ -1,30 +1,22 @@
 -- `whole` gives the whole number that the float is: `Wholes` has the tests.
-use Rattle.std.proofs.Common.{sym, ◌∙◌, to_z-of_z, w64, SFits, rules}
-use Rattle.channels.proofs.Wholes.{accepted, refused_unlike, refused_beyond}
+use Rattle.std.proofs.Common.{Bool, ◌&&◌, sym, ap, ◌∙◌, to_z-of_z, w64, SFits, to_z, of_z, rules}
+use lib.Ieee.{Float, binary32, of_int, eq}
+use Rattle.channels.proofs.Wholes.{tells_whole}
 use Rattle.channels.proofs.force.whole.Goals as goal
-use Rattle.channels.proofs.force.whole.Goals.{else-is_in_range-via-then-is_in_range+else-nearest_i64_to_f32-value, else-is_in_range-via-else-is_in_range}
+use Rattle.channels.proofs.force.whole.Goals.{then-is_in_range, else-is_in_range}
 
-pub returns-then-nearest_i64_to_f32-value : goal.returns-then-nearest_i64_to_f32-value
-returns-then-nearest_i64_to_f32-value c =
-    let fits : SFits w64 c.saturating_f32_to_i64-cut.result = search rules in
-    accepted c.args.value c.nearest_i64_to_f32.result _
-    (to_z-of_z fits ∙ c.saturating_f32_to_i64-cut.ensures)
-    (sym c.is_in_range.ensures ∙ c.if-is_in_range.true)
-    c.nearest_i64_to_f32.ensures
-    c.if-nearest_i64_to_f32-value.true
-
-pub returns-else-is_in_range : goal.returns-else-is_in_range
-returns-else-is_in_range c =
-    let fits : SFits w64 c.saturating_f32_to_i64-cut.result = search rules in
-    elim c.else-is_in_range.branch [
-      | else-is_in_range-via-then-is_in_range+else-nearest_i64_to_f32-value w ↦
-          refused_unlike c.args.value w.nearest_i64_to_f32.result _
-          (to_z-of_z fits ∙ c.saturating_f32_to_i64-cut.ensures)
-          (sym c.is_in_range.ensures ∙ w.if-is_in_range.true)
-          w.nearest_i64_to_f32.ensures
-          w.if-nearest_i64_to_f32-value.false
-      | else-is_in_range-via-else-is_in_range w ↦
-          refused_beyond c.args.value _
-          (to_z-of_z fits ∙ c.saturating_f32_to_i64-cut.ensures)
-          (sym c.is_in_range.ensures ∙ w.if-is_in_range.false)
-    ]
+pub returns : goal.returns
+returns c =
+    let x = c.args.value in
+    let cut = c.saturating_f32_to_i64-cut.result in
+    let v = to_z w64 (of_z w64 cut) in
+    let fits : SFits w64 cut = search rules in
+    c.then_some.ensures ∙ tells_whole x v c.if-is_in_range.then_some (to_z-of_z fits ∙ c.saturating_f32_to_i64-cut.ensures)
+    (elim c.if-is_in_range.branch [
+      | then-is_in_range w ↦
+          w.then_some-is ∙ ap (λ (y : Float). eq y x) w.nearest_i64_to_f32.ensures
+          ∙ sym (ap (λ (b : Bool). b && eq (of_int binary32 v) x) (sym c.is_in_range.ensures ∙ w.if-is_in_range.true))
+      | else-is_in_range w ↦
+          w.then_some-is ∙ w.if-is_in_range.false
+          ∙ sym (ap (λ (b : Bool). b && eq (of_int binary32 v) x) (sym c.is_in_range.ensures ∙ w.if-is_in_range.false))
+    ])

@@ -1,40 +1,47 @@
-use Rattle.std.proofs.Common.{ℕ, ◌+◌, get_or, ℤ, pos, ◌+ℤ◌, ap, ◌∙◌, arith, length-set, to_z-of_z, w64, SFits, rules}
+use Rattle.std.proofs.Common.{◌≡◌, ℕ, ◌+◌, ◌-◌, ◌^◌, ◌<◌, ◌≤◌, List, length, get_or, ℤ, pos, ◌+ℤ◌, nat_abs, ap, arith, to_z-of_z, w64, SFits, rules}
 use borrow.Author.Differences.{ints}
+use borrow.Rule.Slice.PartMut.{mid_of}
 use Rattle.rules.proofs.Bounds.{weight_bound}
-use Rattle.layers.proofs.Filling.{added_none, added_here, added_more, added_all}
+use Rattle.layers.proofs.Filling.{Added, added_here, added_more, panel_added, was_there}
 use Rattle.layers.proofs.fill.add_panel.Goals as goal
 
-pub loop-station-init : goal.loop-station-init
-loop-station-init g c =
-    (added_none c.args.weights.now (g.R.Rule.meaning c.args.below.now).weighting.weight c.args.first, search rules)
+-- a weight added to an entry that is still as it was
+sum_fits : (old part : List ℤ) (first k : ℕ) (W : ℕ → ℤ) (u : ℕ) (w : ℤ) → first + k ≤ length old → length part ≡ k → u < k → Added part (λ s. get_or (mid_of first k old) s (pos 0)) W u → ((s : ℕ) → nat_abs (get_or old s (pos 0)) ≤ 2 ^ 60) → w ≡ W u → nat_abs (W u) ≤ 2 ^ 40 → SFits w64 (get_or part u (pos 0) +ℤ w)
+sum_fits old part first k W u w within long lt added small is bound =
+    omega (arith, ints, added_here part (λ s. get_or (mid_of first k old) s (pos 0)) W u added, was_there old part first k within long u lt, small (first + u))
 
-pub overflow_add-weights-in-loop-station : goal.overflow_add-weights-in-loop-station
-overflow_add-weights-in-loop-station g c =
+pub overflow_add-weight : goal.overflow_add-weight
+overflow_add-weight g c =
     let m = g.R.Rule.meaning c.args.below.now in
-    let at = c.args.first + c.loop-station.station in
-    let e : ℕ → ℤ = λ s. get_or c.args.weights.now s (pos 0) in
-    let here = added_here c.loop-station.weights e m.weighting.weight c.args.first c.loop-station.station c.loop-station.invariant.0 in
-    omega (arith, ints, here, c.requires.1 at, weight_bound m (g.met.R.Rule.sound c.args.below.now) c.loop-station.station, c.weight.ensures)
+    let k = c.args.first + c.span.result + 1 - c.args.first in
+    let u = c.loop-station.station in
+    let long : length c.loop-station.weight-items ≡ k = search rules in
+    let both = sum_fits c.args.weights.now c.loop-station.weight-items c.args.first k m.weighting.weight u c.weight.result
+    (omega (arith, c.told-weights, c.requires.within, c.span.ensures)) long (omega (arith, long)) c.loop-station.invariant c.requires.small c.weight.ensures
+    (weight_bound m (g.met.R.Rule.sound c.args.below.now) u) in
+    omega (arith, ints)
 
 pub loop-station-preserved : goal.loop-station-preserved
 loop-station-preserved g c =
     let m = g.R.Rule.meaning c.args.below.now in
-    let at = c.args.first + c.loop-station.station in
-    let e : ℕ → ℤ = λ s. get_or c.args.weights.now s (pos 0) in
-    let here = added_here c.loop-station.weights e m.weighting.weight c.args.first c.loop-station.station c.loop-station.invariant.0 in
-    let w : ℤ = get_or c.loop-station.weights at (pos 0) +ℤ c.weight.result in
-    let old : SFits w64 (get_or c.loop-station.weights at (pos 0)) = search rules in
+    let k = c.args.first + c.span.result + 1 - c.args.first in
+    let u = c.loop-station.station in
+    let long : length c.loop-station.weight-items ≡ k = search rules in
+    let old : SFits w64 (get_or c.loop-station.weight-items u (pos 0)) = search rules in
     let more : SFits w64 c.weight.result = search rules in
-    let both : SFits w64 w = omega (arith, ints, here, c.requires.1 at, weight_bound m (g.met.R.Rule.sound c.args.below.now) c.loop-station.station, c.weight.ensures) in
-    simp (to_z-of_z) (
-      added_more c.loop-station.weights e m.weighting.weight c.args.first c.loop-station.station w
-          (omega (arith, c.requires.0, c.span-station-end.ensures, c.loop-station.invariant.1)) (ap (λ t. get_or c.loop-station.weights at (pos 0) +ℤ t) c.weight.ensures) c.loop-station.invariant.0,
-      length-set c.loop-station.weights at w ∙ c.loop-station.invariant.1,
-    )
+    let both = sum_fits c.args.weights.now c.loop-station.weight-items c.args.first k m.weighting.weight u c.weight.result
+    (omega (arith, c.told-weights, c.requires.within, c.span.ensures)) long (omega (arith, long)) c.loop-station.invariant c.requires.small c.weight.ensures
+    (weight_bound m (g.met.R.Rule.sound c.args.below.now) u) in
+    simp to_z-of_z
+    (added_more c.loop-station.weight-items (λ s. get_or (mid_of c.args.first k c.args.weights.now) s (pos 0)) m.weighting.weight u
+    (get_or c.loop-station.weight-items u (pos 0) +ℤ c.weight.result) (omega (arith, long)) (ap (λ t. get_or c.loop-station.weight-items u (pos 0) +ℤ t) c.weight.ensures)
+    c.loop-station.invariant)
 
 pub returns : goal.returns
 returns g c =
-    let m = g.R.Rule.meaning c.args.below.now in
-    let e : ℕ → ℤ = λ s. get_or c.args.weights.now s (pos 0) in
-    added_all c.loop-station.weights e m.weighting.weight c.args.first c.loop-station.station
-    (λ s h. (g.met.R.Rule.sound c.args.below.now).beyond s (omega (arith, c.loop-station-test.false, c.span-station-end.ensures))) c.loop-station.invariant.0
+    let sound = g.met.R.Rule.sound c.args.below.now in
+    let k = c.args.first + c.span.result + 1 - c.args.first in
+    let long : length c.loop-station.weight-items ≡ k = search rules in
+    panel_added c.args.weights.now c.loop-station.weight-items c.args.first k (omega (arith, c.told-weights, c.requires.within, c.span.ensures)) long
+    (g.R.Rule.meaning c.args.below.now).weighting.weight c.loop-station.station (omega (arith, long, c.loop-station-test.false))
+    (λ s h. sound.beyond s (omega (arith, c.span.ensures))) c.loop-station.invariant

@@ -5,16 +5,6 @@ use mir.Facts.{to_z_pos}
 use Rattle.layers.proofs.Filling.{scaled_bound}
 use Rattle.layers.proofs.fill.combination.Goals as goal
 
-pub overflow_mul-result : goal.overflow_mul-result
-overflow_mul-result c =
-    let l : SFits w64 c.args.left = c.ranges.left in
-    let r : SFits w64 c.args.right = c.ranges.right in
-    let s : SFits w64 c.args.coarse = c.ranges.coarse in
-    let a : SFits w64 (c.args.left +ℤ c.args.right) = omega (arith, ints, c.requires) in
-    let k : c.args.factor < 2 ^ hbits w64 = omega (arith, c.requires) in
-    simp (to_z-of_z, to_z_pos)
-    (omega (arith, ints, scaled_bound c.args.factor (2 ^ 41) 2048 (c.args.left +ℤ c.args.right) c.requires.0 (omega (arith, ints, c.requires))))
-
 pub overflow_sub-result : goal.overflow_sub-result
 overflow_sub-result c =
     let l : SFits w64 c.args.left = c.ranges.left in
@@ -23,7 +13,7 @@ overflow_sub-result c =
     let a : SFits w64 (c.args.left +ℤ c.args.right) = omega (arith, ints, c.requires) in
     let k : c.args.factor < 2 ^ hbits w64 = omega (arith, c.requires) in
     let b : nat_abs (pos c.args.factor *ℤ (c.args.left +ℤ c.args.right)) ≤ 2 ^ 52 =
-    scaled_bound c.args.factor (2 ^ 41) 2048 (c.args.left +ℤ c.args.right) c.requires.0 (omega (arith, ints, c.requires)) in
+    scaled_bound c.args.factor (2 ^ 41) 2048 (c.args.left +ℤ c.args.right) c.requires.factor (omega (arith, ints, c.requires)) in
     let p : SFits w64 (pos c.args.factor *ℤ (c.args.left +ℤ c.args.right)) = omega (arith, ints) in
     simp (to_z-of_z, to_z_pos) (omega (arith, ints, c.requires))
 
@@ -35,7 +25,7 @@ returns c =
     let a : SFits w64 (c.args.left +ℤ c.args.right) = omega (arith, ints, c.requires) in
     let k : c.args.factor < 2 ^ hbits w64 = omega (arith, c.requires) in
     let b : nat_abs (pos c.args.factor *ℤ (c.args.left +ℤ c.args.right)) ≤ 2 ^ 52 =
-    scaled_bound c.args.factor (2 ^ 41) 2048 (c.args.left +ℤ c.args.right) c.requires.0 (omega (arith, ints, c.requires)) in
+    scaled_bound c.args.factor (2 ^ 41) 2048 (c.args.left +ℤ c.args.right) c.requires.factor (omega (arith, ints, c.requires)) in
     let p : SFits w64 (pos c.args.factor *ℤ (c.args.left +ℤ c.args.right)) = omega (arith, ints) in
     let q : SFits w64 ((pos c.args.factor *ℤ (c.args.left +ℤ c.args.right)) -ℤ c.args.coarse) = omega (arith, ints, c.requires) in
     simp (to_z-of_z, to_z_pos)

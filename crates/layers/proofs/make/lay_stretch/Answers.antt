@@ -5,10 +5,10 @@ use Rattle.layers.proofs.make.lay_stretch.Goals as goal
 
 pub table-requires : goal.table-requires
 table-requires g c =
-    table_sound (Stretch c.args.count) c.args.place (g.R.Rule.meaning c.args.below) c.in_ok-sizes.sizes c.stretch_weights-weights.result c.is_symmetric.result
-    (sym c.in_ok-sizes.ensures) c.is_symmetric.ensures c.stretch_weights-weights.ensures (g.met.R.Rule.sound c.args.below)
+    table_sound (Stretch c.args.count) c.args.place (g.R.Rule.meaning c.args.below) c.in_ok-sizes.sizes c.stretch_weights.result c.is_symmetric.result
+    (sym c.in_ok-sizes.ensures) c.is_symmetric.ensures c.stretch_weights.ensures (g.met.R.Rule.sound c.args.below)
 
 pub returns : goal.returns
 returns g c =
-    table_made (Stretch c.args.count) c.args.place (g.R.Rule.meaning c.args.below) c.in_ok-sizes.sizes c.stretch_weights-weights.result c.is_symmetric.result
-    (sym c.in_ok-sizes.ensures) c.is_symmetric.ensures c.stretch_weights-weights.ensures _ c.table.ensures
+    table_made (Stretch c.args.count) c.args.place (g.R.Rule.meaning c.args.below) c.in_ok-sizes.sizes c.stretch_weights.result c.is_symmetric.result
+    (sym c.in_ok-sizes.ensures) c.is_symmetric.ensures c.stretch_weights.ensures _ c.table.ensures

@@ -1,16 +1,21 @@
-use Rattle.std.proofs.Common.{◌<◌, take, Some, ◌∙◌, rules}
+use Rattle.std.proofs.Common.{◌≡◌, ◌<◌, take, Some, rules}
+use Rattle.report.specs.Reports.{line_of_fault, delivered}
 use Rattle.report.specs.Meanings.{RefusalLine, TheOnly}
-use Rattle.report.proofs.Readings.{only_refusal, reads_as, same_buffer, number_fits}
+use Rattle.report.proofs.Readings.{only_refusal, reads_as}
 use Rattle.report.proofs.Tellings.{refusal_tells}
 use Rattle.report.proofs.reports.write_refusal.Goals as goal
 
 pub returns : goal.returns
 returns c =
-    let read : 0 < c.deliver.result.len → TheOnly (RefusalLine c.args.fault) (take c.deliver.result.len c.deliver.new.out) =
-    reads_as _ _ _ _ _ _ _ (only_refusal c.args.fault (number_fits c.args.fault.cause) (search rules)) c.refusal_line.ensures c.deliver.ensures.buffer c.deliver.ensures.report in
+    let fault = c.args.fault in
+    let line = line_of_fault fault in
+    let buffer : c.write_line.new.out ≡ (delivered line (Some fault) c.args.out.now).buffer = search rules in
+    let report : c.write_line.result ≡ (delivered line (Some fault) c.args.out.now).report = search rules in
+    let read : 0 < c.write_line.result.len → TheOnly (RefusalLine fault) (take c.write_line.result.len c.write_line.new.out) =
+    reads_as _ _ _ _ _ _ (only_refusal fault (search rules)) buffer report in
     record {
-      buffer = c.deliver.ensures.buffer ∙ same_buffer _ _ c.args.out.now _ (Some c.args.fault) c.refusal_line.ensures;
-      report = search rules;
+      buffer = buffer;
+      report = report;
       reads = read;
       tells = λ some other l. refusal_tells _ _ _ l (read some).holds;
     }

@@ -5,10 +5,10 @@ use Rattle.rules.proofs.Loading.{power_small, power_natural}
 use Rattle.rules.proofs.written.checks.station_power.Goals as goal
 
 small : (c : goal.After-pow) → c.pow.result ≤ 16 ^ 10
-small c = omega (arith, power_small c.args.station c.args.exponent 10 c.requires.0 c.requires.1)
+small c = omega (arith, power_small c.args.station c.args.exponent 10 c.requires.near c.requires.low)
 
 pub pow-requires : goal.pow-requires
-pow-requires c = omega (arith, power_small c.args.station c.args.exponent 10 c.requires.0 c.requires.1)
+pow-requires c = omega (arith, power_small c.args.station c.args.exponent 10 c.requires.near c.requires.low)
 
 pub overflow_cast-result : goal.overflow_cast-result
 overflow_cast-result c = omega (arith, ints, small c)

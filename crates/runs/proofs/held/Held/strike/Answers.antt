@@ -5,8 +5,12 @@ use Rattle.runs.proofs.held.Held.strike.Goals as goal
 
 pub invariant_of-self : goal.invariant_of-self
 invariant_of-self c =
-    let f = told c.args.self.now.row in
-    let g = told c.strike.new.self in record { in_range = strike_in_range f g c.args.station c.strike.ensures c.args.self.now.in_range; none_beyond = strike_beyond f g c.args.station c.strike.ensures c.args.self.now.none_beyond; tolerance_most = c.args.self.now.tolerance_most }
+    let h = c.args.self.now in
+    record {
+      in_range = strike_in_range (told h.row) (told c.strike.new.self) c.args.station c.strike.ensures h.in_range;
+      none_beyond = strike_beyond (told h.row) (told c.strike.new.self) c.args.station c.strike.ensures h.none_beyond;
+      tolerance_most = h.tolerance_most;
+    }
 
 pub returns : goal.returns
 returns c = ap (λ (f : ℕ → Option ℤ). record { reading = f; tolerance = c.args.self.now.tolerance }) c.strike.ensures

@@ -1,6 +1,6 @@
 use Rattle.std.proofs.Common.{sym, subst}
 use Rattle.sources.specs.Readings.{InRange}
-use Rattle.sources.proofs.Padding.{list_in_range}
+use Rattle.sources.proofs.Writing.{list_in_range}
 use Rattle.sources.proofs.polynomial.Polynomial.set.Goals as goal
 
 pub invariant_of-self : goal.invariant_of-self

@@ -1,10 +1,10 @@
-use Rattle.std.proofs.Common.{◌≡◌, ℕ, cond, ltb, length, None}
+use Rattle.std.proofs.Common.{◌≡◌, ℕ, cond, ltb, None, drop}
 use Rattle.sources.specs.Rows.{told}
-use Rattle.sources.specs.StepTables.{start_of, step_at}
-use Rattle.sources.proofs.Steps.{Passed}
+use Rattle.sources.specs.StepTables.{step_at}
+use Rattle.sources.proofs.Steps.{bound}
 use Rattle.sources.proofs.step_table.making.written.Given as goal
 
-abbrev pub invariant-loop-station : goal.invariant-loop-station
-invariant-loop-station l =
-    Passed (start_of l.starts) (length l.starts) l.station l.count
-    × ((s : ℕ) → told l.row s ≡ cond (ltb s l.station) (step_at l.starts l.values s) None)
+abbrev pub invariant-loop-index : goal.invariant-loop-index
+invariant-loop-index l = (l.index-iterator.iter.a.rest.now ≡ drop l.index-iterator.count l.starts)
+    × (l.index-iterator.iter.b.rest.now ≡ drop l.index-iterator.count l.values)
+    × ((s : ℕ) → told l.row s ≡ cond (ltb s (bound l.starts l.index-iterator.count)) (step_at l.starts l.values s) None)

@@ -1,7 +1,0 @@
-use Rattle.algebra.specs.Weights.{refine_weight}
-use Rattle.layers.proofs.Filling.{Filled}
-use Rattle.layers.proofs.fill.refine_weights.Given as goal
-
--- the stations before this one are done
-abbrev pub invariant-loop-station : goal.invariant-loop-station
-invariant-loop-station g l = Filled l.weights l.station (refine_weight l.factor (g.R.Rule.meaning l.below).span (g.R.Rule.meaning l.below).weighting.weight)
