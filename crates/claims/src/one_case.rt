@@ -20,7 +20,7 @@ pub struct Case<'a, B, S> {
 }
 
 // Performs the calls one after the other; there is a place for each reply.
-// `battenlime` above has this loop over other types of call and of reply: one function for both would be a trait of two ghost members, longer than this.
+// `battenlime` above has this loop over other types of call and of reply: one function for both, given what a call performs as a closure or a trait, would state each step through it, at more length than this.
 fn perform_all<S: Source>(run: &mut Run<Table>, calls: &[Call<S>], replies: &mut [Reply])
     requires { length calls.now ≤ length replies.old }
     ensures ledger { ledger_of run.new ≡ ledger_from (told run.old.rule) (ledger_of run.old) (map (entry_of S.Source.meaning) calls.now) }

@@ -9,7 +9,7 @@ pub enum Layer {
     Mirror,
     // Richardson: two half-length panels against one, so that the leading error cancels
     Refinement,
-    // weights and denominator divided by their greatest common divisor; an unused place of a list with room for more holds it
+    // weights and denominator divided by their greatest common divisor; a vector of fixed capacity asks for a default, which its unused places hold
     #[default]
     LowestTerms,
 }

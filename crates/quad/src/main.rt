@@ -14,5 +14,5 @@ fn main(rt: HostRuntime) -> io::Result<()> {
     // every report fits
     let mut line = [0; 96];
     let len = answer(input.as_slice(), &mut line).len;
-    rt.stdout().write_all(&line[0..len])
+    rt.stdout().write_all(&line[..len])
 }

@@ -9,10 +9,13 @@ use Rattle.std.proofs.lemmas.List.{get_or_past}
 use Rattle.algebra.specs.Sums.{sum, abs, ◌^ℤ◌}
 use Rattle.algebra.specs.Weights.{Exact, Mirrored}
 use Rattle.rules.specs.Meaning.{Sound}
-use Rattle.rules.specs.Tests.{every, decides_every}
+use Rattle.rules.specs.Tests.{every, every_true}
 use Rattle.rules.specs.BuiltIn.{rows, row_of, meaning_of_row, code_of}
 use Rattle.rules.specs.declared.built_in.Row.{Row}
 use Rattle.rules.specs.declared.built_in.BuiltIn.{BuiltIn}
+
+equal_true : (a b : ℤ) → int_eq a b ≡ true → a ≡ b
+equal_true a b = (Decides-int_eq a b).0
 
 abbrev weight_at : Row → ℕ → ℤ
 weight_at r s = slice_index_or r.weights s (pos 0)
@@ -60,7 +63,7 @@ row_index : (b : BuiltIn) → code_of b - 1 < 10
 row_index b = grind arith
 
 row_passes : (b : BuiltIn) → passes (row_of b) ≡ true
-row_passes b = (decides_every 10 (λ i. passes (slice_index_or rows i none))).0 table_passes (code_of b - 1) (row_index b)
+row_passes b = every_true 10 (λ i. passes (slice_index_or rows i none)) table_passes (code_of b - 1) (row_index b)
 
 sound_sizes : (r : Row) → sizes_pass r ≡ true → (1 ≤ r.span) × (r.span ≤ 8) × (1 ≤ r.denominator) × (r.denominator ≤ 2 ^ 31) × (r.degree ≤ 11)
 unfolding sizes_pass
@@ -75,27 +78,27 @@ beyond_span : (r : Row) → weights_pass r ≡ true → (s : ℕ) → r.span < s
 unfolding weights_pass
 beyond_span r e s h =
     let p = and_parts (length r.weights == 9) _ e in
-    ⊎_elim (λ lt. within ((decides_every 9 (λ k. nat_le k r.span || int_eq (weight_at r k) (pos 0))).0 p.1 s lt))
+    ⊎_elim (λ lt. within (every_true 9 (λ k. nat_le k r.span || int_eq (weight_at r k) (pos 0)) p.1 s lt))
     (λ ge. get_or_past r.weights s (pos 0) (omega (arith, eqb-true _ _ p.0)))
     (cases_lt s 9)
   where
     within : (nat_le s r.span || int_eq (weight_at r s) (pos 0)) ≡ true → weight_at r s ≡ pos 0
     within t =
-        ⊎_elim (λ u. absurd (omega (arith, leb-true _ _ u))) (λ u. (Decides-int_eq (weight_at r s) (pos 0)).0 u)
+        ⊎_elim (λ u. absurd (omega (arith, leb-true _ _ u))) (λ u. equal_true (weight_at r s) (pos 0) u)
         (or_cases (nat_le s r.span) _ t)
 
 exact_row : (r : Row) → moments_pass r ≡ true → Exact r.span (weight_at r) r.denominator r.degree
 unfolding moments_pass
 exact_row r e k h =
-    (Decides-int_eq (moment_left r k) (moment_right r k)).0
-    ((decides_every (suc r.degree) (λ i. int_eq (moment_left r i) (moment_right r i))).0 e k (omega arith))
+    equal_true (moment_left r k) (moment_right r k)
+    (every_true (suc r.degree) (λ i. int_eq (moment_left r i) (moment_right r i)) e k (omega arith))
 
 symmetric_row : (r : Row) → symmetry_passes r ≡ true → r.symmetric ≡ true → Mirrored r.span (weight_at r) × (r.degree % 2 ≡ 1)
 unfolding symmetry_passes
 symmetric_row r e y =
     ⊎_elim (λ n. absurd (both_ways r.symmetric (not-true r.symmetric n) y))
     (λ t. let p = and_parts (r.degree % 2 == 1) _ t in
-    (λ s h. (Decides-int_eq (weight_at r s) (weight_at r (r.span - s))).0 ((decides_every (suc r.span) (λ i. int_eq (weight_at r i) (weight_at r (r.span - i)))).0 p.1 s (omega arith)), eqb-true _ _ p.0))
+    (λ s h. equal_true (weight_at r s) (weight_at r (r.span - s)) (every_true (suc r.span) (λ i. int_eq (weight_at r i) (weight_at r (r.span - i))) p.1 s (omega arith)), eqb-true _ _ p.0))
     (or_cases (not r.symmetric) _ e)
 
 -- the five tests that a row passes
@@ -112,7 +115,7 @@ ceiling_of_row : (r : Row) → ceiling_passes r ≡ true → (absolute_sum r ≡
 unfolding ceiling_passes
 ceiling_of_row r e =
     let c = and_parts (int_eq (absolute_sum r) (pos r.ceiling)) _ e in
-    ((Decides-int_eq (absolute_sum r) (pos r.ceiling)).0 c.0, leb-true _ _ c.1)
+    (equal_true (absolute_sum r) (pos r.ceiling) c.0, leb-true _ _ c.1)
 
 -- a row that passes keeps the promises of a rule
 row_sound : (r : Row) → passes r ≡ true → Sound (meaning_of_row r)

@@ -10,3 +10,6 @@ every (suc n) p = p n && every n p
 pub decides_every : (n : ℕ) (p : ℕ → Bool) → Decides (every n p) ((k : ℕ) → k < n → p k ≡ true)
 decides_every n p =
     Decides-below_and p (λ k. p k ≡ true) (λ m. every m p) (λ k. (λ e. e, λ e. e)) refl (λ _. refl) n
+
+pub every_true : (n : ℕ) (p : ℕ → Bool) → every n p ≡ true → (k : ℕ) → k < n → p k ≡ true
+every_true n p = (decides_every n p).0

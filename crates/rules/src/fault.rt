@@ -58,7 +58,7 @@ pub enum Cause {
 }
 
 impl Cause {
-    // The number that a report prints; a method, since its name says which number is meant and `u8::from(cause)` would not.
+    // The number that a report prints. A method as `name` is, since a fault is told by number and name together, and `u8::from(cause)` would say neither.
     pub fn number(self) -> u8
         ensures { result ≡ number_of self }
     {

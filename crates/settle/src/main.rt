@@ -17,8 +17,8 @@ fn main(rt: HostRuntime) -> io::Result<()> {
     let mut line = [0; 96];
     for input in [pair.first, pair.second] {
         let len = report(input, &mut line).len;
-        rt.stdout().write_all(&line[0..len])?;
+        rt.stdout().write_all(&line[..len])?;
     }
     let len = write_verdict(&mut line, verdict(pair)).len;
-    rt.stdout().write_all(&line[0..len])
+    rt.stdout().write_all(&line[..len])
 }

@@ -1,3 +1,4 @@
+pub mod Entries
 pub mod Horner
 pub mod RowFilling
 pub mod Searches

@@ -1,5 +1,5 @@
 -- A search for the first index at which a test holds, by a loop or by the library's methods.
-use Rattle.std.proofs.Common.{◌≡◌, ℕ, zero, suc, ◌+◌, ◌<◌, ◌≤◌, Bool, true, false, cond, List, length, ℤ, pos, Some, None, Option, sym, refl, ap, ◌∙◌, subst, ⊎_elim, add-one, arith}
+use Rattle.std.proofs.Common.{◌≡◌, ℕ, zero, suc, ◌+◌, ◌<◌, ◌≤◌, Bool, true, false, cond, List, length, get_or, Some, None, Option, sym, refl, ap, ◌∙◌, subst, ⊎_elim, add-one, arith}
 use Rattle.std.specs.Bool.{⊤}
 use Rattle.std.specs.Fn.{Called, CalledAt}
 use Rattle.std.specs.Iterator.{YieldsThen}
@@ -8,7 +8,7 @@ use Rattle.std.specs.Option.{MatchOption}
 use Rattle.std.proofs.iter.Yields.{nat_range_steps}
 use Rattle.std.proofs.lemmas.Bool.{cases_eq}
 use Rattle.std.proofs.lemmas.Iterator.{YieldsList, IsFirst-from_position, first_from_Range}
-use Rattle.sources.specs.Searches.{value_of, first_where, or_else}
+use Rattle.sources.specs.Searches.{first_where, or_else}
 use denote.Param.Members.{Mut}
 use denote.Ref.{Bor}
 
@@ -60,15 +60,15 @@ find_is test n u f r ran computes =
     (λ x q k. ((computes x false q k).0, sym (computes x false q k).1)))
 
 -- `position` in a list, by a closure that computes the test of an element
-pub position_is : {S A F : Type 0} {steps : S → Option A → S → Type 0} {v : A → ℤ} {g : Mut F (A × Unit {0}) Bool} {s : S} {all : List ℤ} (test : ℤ → Bool) (u : S) (f : F) (r : Option ℕ) → (xs : List A) × (o : Option A) × (j : F) × YieldsThen steps s xs o u × FoldsTo (λ p x q. Called g p (x, tt) false q) f xs j × MatchOption o (r ≡ None) (λ x. (r ≡ Some (length xs)) × ((h : F) × Called g j (x, tt) true h)) → YieldsList steps v s all → ((x : A) (b : Bool) (q : F) → Called g f (x, tt) b q → (q ≡ f) × (b ≡ test (v x))) → r ≡ first_where (length all) (λ i. test (value_of all i))
-position_is {v} {all} test u f r ran yields computes =
+pub position_is : {S A F X : Type 0} {steps : S → Option A → S → Type 0} {v : A → X} {g : Mut F (A × Unit {0}) Bool} {s : S} {all : List X} (d : X) (test : X → Bool) (u : S) (f : F) (r : Option ℕ) → (xs : List A) × (o : Option A) × (j : F) × YieldsThen steps s xs o u × FoldsTo (λ p x q. Called g p (x, tt) false q) f xs j × MatchOption o (r ≡ None) (λ x. (r ≡ Some (length xs)) × ((h : F) × Called g j (x, tt) true h)) → YieldsList steps v s all → ((x : A) (b : Bool) (q : F) → Called g f (x, tt) b q → (q ≡ f) × (b ≡ test (v x))) → r ≡ first_where (length all) (λ i. test (get_or all i d))
+position_is {v} {all} d test u f r ran yields computes =
     go r
     (IsFirst-from_position u f r (λ y. test y ≡ true) (λ y. test y ≡ false) ran yields
     (λ x q k. sym (computes x true q k).1)
     (λ x q k. ((computes x false q k).0, sym (computes x false q k).1)))
   where
-    go : (r : Option ℕ) → MatchOption r (AllWithin (λ y. test y ≡ false) all 0 (length all)) (λ i. (i < length all) × HoldsAt (λ y. test y ≡ true) all i × AllWithin (λ y. test y ≡ false) all 0 i) → r ≡ first_where (length all) (λ i. test (value_of all i))
-    go None none = first_is (λ i. test (value_of all i)) (length all) None (λ k l h. none k (pos 0) l h)
+    go : (r : Option ℕ) → MatchOption r (AllWithin (λ y. test y ≡ false) all 0 (length all)) (λ i. (i < length all) × HoldsAt (λ y. test y ≡ true) all i × AllWithin (λ y. test y ≡ false) all 0 i) → r ≡ first_where (length all) (λ i. test (get_or all i d))
+    go None none = first_is (λ i. test (get_or all i d)) (length all) None (λ k l h. none k d l h)
     go (Some i) found =
-        first_is (λ i. test (value_of all i)) (length all) (Some i)
-        (omega arith, found.0, found.1 (pos 0), λ k l h. found.2 k (pos 0) l h)
+        first_is (λ i. test (get_or all i d)) (length all) (Some i)
+        (omega arith, found.0, found.1 d, λ k l h. found.2 k d l h)

@@ -1,4 +1,5 @@
 pub mod Eithers
+pub mod Entries
 pub mod Polynomials
 pub mod Readings
 pub mod Refusals

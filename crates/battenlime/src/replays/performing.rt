@@ -46,7 +46,7 @@ impl From<Reply> for EstimateRecord {
 }
 
 // Performs the calls one after the other; there is a place for each reply.
-// The loop of `claims` has other types of call and of reply: one function for both would be a trait of two ghost members, longer than this.
+// The loop of `claims` has other types of call and of reply: one function for both, given what a call performs as a closure or a trait, would state each step through it, at more length than this.
 pub(super) fn perform_all(
     run: &mut Run<Table>,
     calls: &[CallRecord],
