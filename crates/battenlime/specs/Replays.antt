@@ -37,6 +37,10 @@ abbrev pub started : (order survey : List ℕ) → (calls places : ℕ) → Resu
 started order survey calls places =
     carried (account_of_case order survey) (λ a. cond (nat_le calls places) (Ok a) (Err (too_few_places calls)))
 
+-- the same from what the rule and the survey come to
+abbrev pub started_by : Result Account Fault → (calls places : ℕ) → Result Account Fault
+started_by account calls places = carried account (λ a. cond (nat_le calls places) (Ok a) (Err (too_few_places calls)))
+
 -- why there is no answer, or three zeros
 abbrev pub refusal_told : {A : Type 0} → Result A Fault → RefusalRecord
 refusal_told (Ok a) = refusal_shown None

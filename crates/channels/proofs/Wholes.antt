@@ -116,7 +116,7 @@ never_nan nan = refl
 never_nan (inf s) = refl
 never_nan (fin s m e) = refl
 
-whole_tested : (x : Float) → whole_reading x ≡ tested (to_signed 63 x) x
+pub whole_tested : (x : Float) → whole_reading x ≡ tested (to_signed 63 x) x
 unfolding to_signed
 whole_tested nan = sym (ap (λ (b : Bool). cond b (Some (pos 0)) None) (never_nan (of_int binary32 (pos 0))))
 whole_tested (inf true) = refl

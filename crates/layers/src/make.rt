@@ -1,5 +1,5 @@
 // The making of each layer, with its place in a pile where it can be refused.
-ghost use Rattle.std.specs.Prelude.{◌≡◌, suc, ◌+◌, ◌≤◌, if◌then◌else◌};
+ghost use Rattle.std.specs.Prelude.{◌≡◌, suc, ◌+◌, ◌≤◌, if◌then◌else◌, Err, IfErr};
 ghost use Rattle.std.specs.Result.{result_map_both};
 ghost use Rattle.algebra.specs.Divisors.{Greatest};
 ghost use Rattle.rules.specs.Tables.{told as told_by};
@@ -17,7 +17,7 @@ use rules::{Cause, Fault, Origin, Rule, Table};
 // The refinement factors for the degrees 0 to 10.
 const FACTORS: [u64; 11] = [2, 4, 8, 16, 32, 64, 128, 256, 512, 1024, 2048];
 
-// The refinement factor of a degree. Above 10 it is 0, as its definition is total; a refinement there is refused for its degree in any case.
+// The refinement factor of a degree. Above 10 it is 0, as its definition is total; a refinement there is refused in any case, for its span or its degree.
 fn factor(degree: usize) -> u64
     ensures value { result ≡ factor_of degree }
     ensures bound { result ≤ 2048 }
@@ -67,6 +67,24 @@ fn doubled<R: Rule>(below: &R, place: usize) -> Result<Sizes, Fault>
     };
     sizes.admit(place)?;
     Ok(sizes)
+}
+
+// Refuses as the making of the layer does, by the sizes alone, so that no table is copied for a layer that is refused. Not inlined, since the compiler then merges it with the checks of the making: a pile of 257 layers took up to two thirds longer.
+#[inline(never)]
+pub(crate) fn check<R: Rule>(layer: Layer, below: &R, place: usize) -> Result<(), Fault>
+    ensures value { result ≡ result_map_both (λ _. tt) (λ e. e) (sizing layer place (R.meaning below.now)) }
+    ensures refusal { IfErr result (λ e. making layer place (R.meaning below.now) ≡ Err e) }
+{
+    match layer {
+        Layer::Panels(count) | Layer::Stretch(count) => {
+            multiplied(below, count, place)?;
+        }
+        Layer::Refinement => {
+            doubled(below, place)?;
+        }
+        Layer::Mirror | Layer::LowestTerms => {}
+    }
+    Ok(())
 }
 
 // The sizes of the rule in lowest terms.

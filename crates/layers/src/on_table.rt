@@ -7,7 +7,8 @@ ghost use Rattle.layers.specs.Layers.{making, piling, reached};
 
 use crate::layer::Layer;
 use crate::laying::lay as lay_layer;
-use crate::make::written_out;
+use crate::make::{check, written_out};
+use crate::sizes::Sizes;
 use rules::{Fault, Rule, Table};
 
 // A rule of any type as a table, which layers can be laid on.
@@ -17,12 +18,20 @@ pub fn table_of<R: Rule + Drop>(rule: R) -> Table
     written_out(&rule)
 }
 
+// A table as it is: its row is copied whole, where `written_out` asks for each weight.
+fn copied(table: &Table) -> Table
+    ensures { told_by result ≡ told_by table.now }
+{
+    Sizes::of(table).table(table.symmetric, table.weights)
+}
+
 // One layer at its place in a pile. A refusal leaves the table as it was.
 fn lay_one(table: &mut Table, layer: Layer, place: usize) -> Result<(), Fault>
     ensures reply { result_map_both (λ _. told_by table.new) (λ e. e) result ≡ making layer place (told_by table.old) }
     ensures kept { IfErr result (λ _. table.new ≡ table.old) }
 {
-    *table = lay_layer(layer, written_out(&*table), place)?;
+    check(layer, &*table, place)?;
+    *table = lay_layer(layer, copied(&*table), place)?;
     Ok(())
 }
 

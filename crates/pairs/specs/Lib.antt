@@ -1,4 +1,3 @@
 pub mod Accounts
-pub mod Prepared
 pub mod Splits
 pub mod VerdictLines

@@ -20,7 +20,7 @@ OnlyDigits bytes = (k : ℕ) → k < length bytes → IsInRange 48 57 (get_or by
 numerals : IsNumeralModel OnlyDigits (read_after 0)
 numerals = numerals_by_fold OnlyDigits tells_by_index read_after (search rules)
 
-only_decimal : (n : ℕ) → n < 2 ^ 64 → TheOnly (DecimalText n) (decimal n)
+pub only_decimal : (n : ℕ) → n < 2 ^ 64 → TheOnly (DecimalText n) (decimal n)
 only_decimal n fits =
     record {
       holds =
@@ -34,7 +34,7 @@ only_decimal n fits =
           sym (decimal-digits_value numerals other t.only_digits t.some_digit t.no_leading_zero (omega (arith, t.reads_back))) ∙ ap decimal t.reads_back;
     }
 
-only_signed : (z : ℤ) → mag z < 2 ^ 63 → TheOnly (SignedText z) (signed_decimal z)
+pub only_signed : (z : ℤ) → mag z < 2 ^ 63 → TheOnly (SignedText z) (signed_decimal z)
 only_signed (pos n) fits = only_decimal n (omega arith)
 only_signed (negsuc n) fits =
     let digits : TheOnly (DecimalText (suc n)) (decimal (suc n)) = only_decimal (suc n) (omega arith) in
@@ -66,7 +66,7 @@ only_result numerator denominator degree radius f g h k =
           cc (l.parts, first.unique _ l.numerator_text, second.unique _ l.denominator_text, third.unique _ l.degree_text, fourth.unique _ l.radius_text);
     }
 
-number_fits : (k : Cause) → number_of k < 2 ^ 64
+pub number_fits : (k : Cause) → number_of k < 2 ^ 64
 number_fits k = grind arith
 
 pub only_refusal : (f : Fault) → f.place < 2 ^ 64 → TheOnly (RefusalLine f) (line_of_fault f)

@@ -49,13 +49,13 @@ pub small_fits : (z : ℤ) → nat_abs z ≤ 2 ^ 62 → SFits w64 z
 small_fits z h = omega (arith, ints)
 
 -- one term of a moment
-term_size : (w : ℤ) (s k : ℕ) → s ≤ 16 → k ≤ 9 → nat_abs (w *ℤ (pos s ^ℤ k)) ≤ 16 ^ 9 * nat_abs w
+pub term_size : (w : ℤ) (s k : ℕ) → s ≤ 16 → k ≤ 9 → nat_abs (w *ℤ (pos s ^ℤ k)) ≤ 16 ^ 9 * nat_abs w
 term_size w s k h l =
     let e : nat_abs (w *ℤ (pos s ^ℤ k)) ≡ nat_abs w * s ^ k = ap (λ t. nat_abs (w *ℤ t)) (power_natural s k) ∙ ap nat_abs (abs_mul w (pos (s ^ k))) in
     omega (arith, e, mul-le-mul_left (nat_abs w) (power_small s k 9 h l))
 
 -- a moment over the first n of up to 17 stations
-moment_size : (ws : List ℤ) (n k : ℕ) → n ≤ length ws → n ≤ 17 → k ≤ 9 → nat_abs (sum n (λ s. weight_in ws s *ℤ (pos s ^ℤ k))) ≤ 16 ^ 9 * sum_by nat_abs (take n ws)
+pub moment_size : (ws : List ℤ) (n k : ℕ) → n ≤ length ws → n ≤ 17 → k ≤ 9 → nat_abs (sum n (λ s. weight_in ws s *ℤ (pos s ^ℤ k))) ≤ 16 ^ 9 * sum_by nat_abs (take n ws)
 moment_size ws zero k g h l = rw (sum_none (λ s. weight_in ws s *ℤ (pos s ^ℤ k))) (omega arith)
 moment_size ws (suc n) k g h l =
     let a = moment_size ws n k (omega arith) (omega arith) l in
@@ -102,7 +102,7 @@ failing_none (suc n) p h =
     ap₂ (λ o b. option_or o (cond b None (Some n))) (failing_none n p (λ k l. h k (omega arith))) (h n (omega arith))
 
 -- the first that fails
-failing_found : (n N : ℕ) (p : ℕ → Bool) → n < N → first_failing n p ≡ None → p n ≡ false → first_failing N p ≡ Some n
+pub failing_found : (n N : ℕ) (p : ℕ → Bool) → n < N → first_failing n p ≡ None → p n ≡ false → first_failing N p ≡ Some n
 failing_found n zero p l e h = absurd (omega arith)
 failing_found n (suc N) p l e h = elim (cases_eq n N) [
   | inl q ↦

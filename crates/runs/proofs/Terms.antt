@@ -16,10 +16,10 @@ abbrev pub term_of : ℤ → Option ℤ → Option ℤ
 term_of w o = cond (lacks w o) None (Some (w *ℤ value_of o))
 
 -- an answer is there where nothing lacks, and then it is the product
-term_there : (w t : ℤ) (o : Option ℤ) → Some t ≡ term_of w o → (lacks w o ≡ false) × (t ≡ w *ℤ value_of o)
+pub term_there : (w t : ℤ) (o : Option ℤ) → Some t ≡ term_of w o → (lacks w o ≡ false) × (t ≡ w *ℤ value_of o)
 term_there w t o e = grind arith
 
-term_missing : (w : ℤ) (o : Option ℤ) → None ≡ term_of w o → lacks w o ≡ true
+pub term_missing : (w : ℤ) (o : Option ℤ) → None ≡ term_of w o → lacks w o ≡ true
 term_missing w o e = grind arith
 
 -- the same at a station of a row of weights and readings

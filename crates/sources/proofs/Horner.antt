@@ -81,7 +81,7 @@ small_step s (negsuc n) a one = omega (arith, ints, mul-le-mul_left (suc n) one)
 abbrev pub breaks_off : ℕ → ℤ → Bool
 breaks_off s w = ltb 1 s && ltb 2097152 (nat_abs w)
 
-steady_more : (a : ℕ → ℤ) (s k : ℕ) (v w : ℤ) → Bounded a → Steady a s (suc k) v → k < 12 → w ≡ (v *ℤ pos s) +ℤ a k → breaks_off s w ≡ false → Steady a s k w
+pub steady_more : (a : ℕ → ℤ) (s k : ℕ) (v w : ℤ) → Bounded a → Steady a s (suc k) v → k < 12 → w ≡ (v *ℤ pos s) +ℤ a k → breaks_off s w ≡ false → Steady a s k w
 steady_more a s k v w small st most e stays = record {
   is = e ∙ next_is a s k v most st.is;
   above_one = λ two. ⊎_elim (λ f. absurd (both_ways (ltb 1 s) f (lt-ltb 1 s two))) (λ f. ltb-false 2097152 (nat_abs w) f) (and_cases (ltb 1 s) (ltb 2097152 (nat_abs w)) stays);
@@ -96,7 +96,7 @@ polynomial_is : (a : ℕ → ℤ) (s : ℕ) → horner a (pos s) 0 12 ≡ polyno
 polynomial_is a s =
     horner_sum a (pos s) 12 0 ∙ ap (sum 12) (fun_ext (λ i. let z : 0 + i ≡ i = omega arith in ap (λ (t : ℕ). a t *ℤ (pos s ^ℤ i)) z))
 
-steady_left : (a : ℕ → ℤ) (s k : ℕ) (v w : ℤ) → Bounded a → Steady a s (suc k) v → k < 12 → w ≡ (v *ℤ pos s) +ℤ a k → breaks_off s w ≡ true → is_in_range (polynomial_value a s) ≡ false
+pub steady_left : (a : ℕ → ℤ) (s k : ℕ) (v w : ℤ) → Bounded a → Steady a s (suc k) v → k < 12 → w ≡ (v *ℤ pos s) +ℤ a k → breaks_off s w ≡ true → is_in_range (polynomial_value a s) ≡ false
 steady_left a s k v w small st most e leaves =
     let p = and_parts (ltb 1 s) (ltb 2097152 (nat_abs w)) leaves in
     let large : 2097152 < nat_abs (horner a (pos s) k (12 - k)) = subst (λ (t : ℤ). 2097152 < nat_abs t) (e ∙ next_is a s k v most st.is) (ltb-true 2097152 (nat_abs w) p.1) in

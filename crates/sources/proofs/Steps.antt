@@ -1,11 +1,11 @@
 -- A step table written out step by step.
-use Rattle.std.proofs.Common.{◌≡◌, ℕ, zero, suc, ◌+◌, ◌-◌, ◌<◌, ◌≤◌, Bool, true, false, cond, ltb, leb, List, length, get_or, drop, ◌∷◌, length-drop, ℤ, Some, None, Option, sym, refl, ap, ◌∙◌, subst, ⊎_elim, arith}
+use Rattle.std.proofs.Common.{◌≡◌, ℕ, zero, suc, ◌+◌, ◌-◌, ◌<◌, ◌≤◌, Bool, true, false, cond, ◌&&◌, ltb, leb, List, length, get_or, drop, ◌∷◌, length-drop, ℤ, pos, Some, None, Option, sym, refl, ap, ◌∙◌, subst, ⊎_elim, arith}
 use Rattle.std.proofs.lemmas.Bool.{le-leb, lt-leb, lt-ltb, le-ltb, leb-false, or_parts, and_cases, cases_eq, cases_lt, cond-true, cond-false, both_ways}
 use Rattle.std.proofs.lemmas.Grind.{get_or_default_zero}
 use Rattle.std.proofs.lemmas.List.{get_or_past, drop_more}
 use Rattle.sources.specs.Readings.{InRange}
 use Rattle.sources.specs.Refusals.{out_of_order}
-use Rattle.sources.specs.Rows.{with_readings}
+use Rattle.sources.specs.Rows.{blank, with_readings}
 use Rattle.sources.specs.Searches.{value_of, first_where, last_value}
 use Rattle.sources.specs.StepTables.{start_of, step_at}
 use Rattle.sources.proofs.Searches.{first_none}
@@ -45,6 +45,10 @@ last_upto test value m (suc n) h fails =
 abbrev pub bound : List ℕ → ℕ → ℕ
 bound starts k = get_or starts k 1025
 
+-- what stands before the steps are written: 0 from the first start on
+abbrev pub flat : List ℕ → ℕ → Option ℤ
+flat starts = with_readings (bound starts 0) 1025 (pos 0) blank
+
 none_either_way : (b : Bool) → cond {A = Option ℤ} b None None ≡ None
 none_either_way true = refl
 none_either_way false = refl
@@ -76,13 +80,35 @@ module _ (starts : List ℕ) (values : List ℤ) (ordered : first_where (length 
       (⊎_elim (λ (e : k ≡ i). let b = bound_in i high in let same : bound starts k ≡ bound starts i = ap (bound starts) e in omega arith)
       (λ d. let b = bound_in k (omega arith) in let r = rising (start_of starts) (length starts) ok k i (omega arith) high in omega arith) (cases_eq k i))
 
-  pub written_first : (s : ℕ) → None ≡ cond (ltb s (bound starts 0)) (step_at starts values s) None
+  -- no reading below the first start
+  step_before : (s : ℕ) → s < bound starts 0 → step_at starts values s ≡ None
+  step_before s l =
+      ap (λ (o : Option ℤ). cond (leb s 1024) o None) (last_upto (λ i. leb (start_of starts i) s) (value_of values) 0 (length starts) (omega arith) (later 0 s l))
+      ∙ none_either_way (leb s 1024)
+
+  flat_above : (s : ℕ) → bound starts 0 ≤ s → s < 1025 → flat starts s ≡ Some (pos 0)
+  flat_above s low high = rw (le-leb (bound starts 0) s low, lt-ltb s 1025 high) refl
+
+  flat_beyond : (s : ℕ) → 1025 ≤ s → flat starts s ≡ None
+  flat_beyond s h = let m = bound_most 0 in rw (le-leb (bound starts 0) s (omega arith), le-ltb s 1025 h) refl
+
+  pub written_first : (s : ℕ) → flat starts s ≡ cond (ltb s (bound starts 0)) (step_at starts values s) (flat starts s)
   written_first s =
       ⊎_elim
-      (λ (l : s < bound starts 0). sym (cond-true (ltb s (bound starts 0)) (step_at starts values s) None (lt-ltb s (bound starts 0) l)
-      ∙ ap (λ (o : Option ℤ). cond (leb s 1024) o None) (last_upto (λ i. leb (start_of starts i) s) (value_of values) 0 (length starts) (omega arith) (later 0 s l))
-      ∙ none_either_way (leb s 1024)))
-      (λ (g : bound starts 0 ≤ s). sym (cond-false (ltb s (bound starts 0)) (step_at starts values s) None (le-ltb s (bound starts 0) g))) (cases_lt s (bound starts 0))
+      (λ (l : s < bound starts 0). sym (cond-true (ltb s (bound starts 0)) (step_at starts values s) (flat starts s) (lt-ltb s (bound starts 0) l) ∙ step_before s l
+      ∙ sym (cond-false (leb (bound starts 0) s && ltb s 1025) (Some (pos 0)) None (rw (lt-leb (bound starts 0) s l) refl))))
+      (λ (g : bound starts 0 ≤ s). sym (cond-false (ltb s (bound starts 0)) (step_at starts values s) (flat starts s) (le-ltb s (bound starts 0) g))) (cases_lt s (bound starts 0))
+
+  -- from the start of index k on a reading stands before that step is written
+  pub stands : (k : ℕ) → k < length starts → (f : ℕ → Option ℤ) → ((s : ℕ) → f s ≡ cond (ltb s (bound starts k)) (step_at starts values s) (flat starts s))
+      → (s : ℕ) → start_of starts k ≤ s → s < bound starts (k + 1) → f s ≡ Some (pos 0)
+  stands k h f before s low high =
+      let b = bound_in k h in
+      let m = bound_most (k + 1) in
+      let first : bound starts 0 ≤ start_of starts k =
+      ⊎_elim (λ (e : 0 ≡ k). let same : bound starts 0 ≡ bound starts k = ap (bound starts) e in omega arith)
+      (λ d. let z = bound_in 0 (omega arith) in let r = rising (start_of starts) (length starts) ok 0 k (omega arith) h in omega arith) (cases_eq 0 k) in
+      before s ∙ cond-false (ltb s (bound starts k)) _ _ (le-ltb s (bound starts k) (omega arith)) ∙ flat_above s (omega arith) (omega arith)
 
   -- at a station of the step k its value holds
   step_is : (k s : ℕ) → k < length starts → start_of starts k ≤ s → s < bound starts (k + 1) → step_at starts values s ≡ Some (value_of values k)
@@ -93,7 +119,7 @@ module _ (starts : List ℕ) (values : List ℤ) (ordered : first_where (length 
 
   -- one step more
   pub written_more : (k : ℕ) → k < length starts → (f g : ℕ → Option ℤ) → g ≡ with_readings (start_of starts k) (bound starts (k + 1)) (value_of values k) f
-      → ((s : ℕ) → f s ≡ cond (ltb s (bound starts k)) (step_at starts values s) None) → (s : ℕ) → g s ≡ cond (ltb s (bound starts (k + 1))) (step_at starts values s) None
+      → ((s : ℕ) → f s ≡ cond (ltb s (bound starts k)) (step_at starts values s) (flat starts s)) → (s : ℕ) → g s ≡ cond (ltb s (bound starts (k + 1))) (step_at starts values s) (flat starts s)
   written_more k h f g put before s =
       ap (λ (q : ℕ → Option ℤ). q s) put
       ∙ ⊎_elim
@@ -105,11 +131,11 @@ module _ (starts : List ℕ) (values : List ℤ) (ordered : first_where (length 
       (cases_lt s (bound starts (k + 1))))
       (cases_lt s (start_of starts k))
 
-  pub written_all : (k : ℕ) → length starts ≤ k → (f : ℕ → Option ℤ) → ((s : ℕ) → f s ≡ cond (ltb s (bound starts k)) (step_at starts values s) None) → (s : ℕ) → f s ≡ step_at starts values s
+  pub written_all : (k : ℕ) → length starts ≤ k → (f : ℕ → Option ℤ) → ((s : ℕ) → f s ≡ cond (ltb s (bound starts k)) (step_at starts values s) (flat starts s)) → (s : ℕ) → f s ≡ step_at starts values s
   written_all k h f written s =
       written s
-      ∙ ⊎_elim (λ (l : s < bound starts k). cond-true (ltb s (bound starts k)) _ None (lt-ltb s (bound starts k) l))
-      (λ (g : bound starts k ≤ s). cond-false (ltb s (bound starts k)) _ None (le-ltb s (bound starts k) g) ∙ sym (cond-false (leb s 1024) _ None (lt-leb s 1024 (omega (arith, bound_past k h)))))
+      ∙ ⊎_elim (λ (l : s < bound starts k). cond-true (ltb s (bound starts k)) _ (flat starts s) (lt-ltb s (bound starts k) l))
+      (λ (g : bound starts k ≤ s). cond-false (ltb s (bound starts k)) _ (flat starts s) (le-ltb s (bound starts k) g) ∙ flat_beyond s (omega (arith, bound_past k h)) ∙ sym (cond-false (leb s 1024) _ None (lt-leb s 1024 (omega (arith, bound_past k h)))))
       (cases_lt s (bound starts k))
 
 -- a reading of a step table is one of its values

@@ -47,6 +47,8 @@ impl From<Reply> for EstimateRecord {
 
 // Performs the calls one after the other; there is a place for each reply.
 // The loop of `claims` has other types of call and of reply: one function for both, given what a call performs as a closure or a trait, would state each step through it, at more length than this.
+// Not inlined, since the values of its loop would then stand on the stack beside those of the caller: 9 KB more.
+#[inline(never)]
 pub(super) fn perform_all(
     run: &mut Run<Table>,
     calls: &[CallRecord],

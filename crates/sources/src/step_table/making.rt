@@ -21,13 +21,14 @@ fn end(starts: &[usize], index: usize) -> usize
     starts.get(index + 1).copied().unwrap_or(LAST_STATION + 1)
 }
 
-// The readings written out, step by step.
+// The readings written out, step by step. The stations from the first start on are marked at once.
 fn written(starts: &[usize], values: &[i64]) -> Row
     requires same_length { length starts.now ≡ length values.now }
     requires ordered { first_where (length starts.now) (out_of_order (start_of starts.now)) ≡ None }
     ensures { (s : ℕ) → told result s ≡ step_at starts.now values.now s }
 {
-    let mut row = Row::empty();
+    let mut row = Row::zeros();
+    row.mark_from(starts.first().copied().unwrap_or(LAST_STATION + 1));
     for (index, (start, value)) in starts.iter().zip(values).enumerate() {
         row.fill(*start, end(starts, index), *value);
     }

@@ -1,9 +1,10 @@
-use Rattle.std.proofs.Common.{◌≡◌, ◌+◌, ◌-◌, ℕ, pos, length, cond, ltb, None, length-drop, sym, ⊎_elim, ℤ, Option, ap, ◌∙◌, arith, w64, SFits, to_z, of_z, rules}
+use Rattle.std.proofs.Common.{◌≡◌, ◌+◌, ◌-◌, ℕ, pos, length, cond, ltb, length-drop, sym, ⊎_elim, ℤ, Option, ap, ◌∙◌, arith, w64, SFits, to_z, of_z, rules}
 use Rattle.std.proofs.lemmas.Int.{to_z-of_z}
-use Rattle.sources.specs.Rows.{told, with_readings}
+use Rattle.sources.specs.Rows.{told, blank, with_readings}
 use Rattle.sources.specs.Searches.{value_of}
 use Rattle.sources.specs.StepTables.{start_of, step_at}
-use Rattle.sources.proofs.Steps.{left_from, bound, bound_above, bound_most, written_first, written_more, written_all}
+use Rattle.sources.proofs.RowFilling.{told_present}
+use Rattle.sources.proofs.Steps.{left_from, bound, flat, bound_above, bound_most, stands, written_first, written_more, written_all}
 use Rattle.sources.proofs.step_table.making.written.Goals as goal
 
 pub end-requires : goal.end-requires
@@ -24,14 +25,32 @@ pub fill-requires-clause-most : goal.fill-requires-clause-most
 fill-requires-clause-most c =
     omega (arith, c.end.ensures, bound_most c.args.starts.now c.args.values.now c.requires.ordered (c.in-Some.index + 1))
 
+pub fill-requires-clause-marked : goal.fill-requires-clause-marked
+fill-requires-clause-marked c =
+    let starts = c.args.starts.now in
+    let values = c.args.values.now in
+    let next = c.in-Some.ensures.steps in
+    let k = c.loop-index.index-iterator.count in
+    let start = left_from starts _ k _ 0 (sym c.loop-index.invariant.0 ∙ next.0.0) in
+    let end = c.end.ensures ∙ ap (λ i. bound starts (i + 1)) next.1 in
+    λ s low high.
+    told_present c.loop-index.row s (pos 0)
+    (stands starts values c.requires.ordered k start.0 (told c.loop-index.row) c.loop-index.invariant.2 s (let from = start.1 in omega (arith, from)) (omega (arith, end)))
+
+pub mark_from-requires-clause-most : goal.mark_from-requires-clause-most
+mark_from-requires-clause-most c =
+    let first : c.unwrap_or.result ≡ bound c.args.starts.now 0 = search rules in
+    omega (arith, first, bound_most c.args.starts.now c.args.values.now c.requires.ordered 0)
+
 pub loop-index-init : goal.loop-index-init
 loop-index-init c =
-    let none : 0 ≡ c.into_iter-index-iterator.result.count = search rules in (
+    let none : 0 ≡ c.into_iter-index-iterator.result.count = search rules in
+    let first : c.unwrap_or.result ≡ bound c.args.starts.now 0 = search rules in (
       search rules,
       search rules,
       λ s.
-          ap (λ (f : ℕ → Option ℤ). f s) c.empty-row.ensures ∙ written_first c.args.starts.now c.args.values.now c.requires.ordered s
-          ∙ ap (λ k. cond (ltb s (bound c.args.starts.now k)) (step_at c.args.starts.now c.args.values.now s) None) none,
+          ap (λ (f : ℕ → Option ℤ). f s) c.mark_from.ensures ∙ ap (λ (f : ℕ → Option ℤ). with_readings c.unwrap_or.result 1025 (pos 0) f s) c.zeros-row.ensures.none ∙ ap (λ i. with_readings i 1025 (pos 0) blank s) first ∙ written_first c.args.starts.now c.args.values.now c.requires.ordered s
+          ∙ ap (λ k. cond (ltb s (bound c.args.starts.now k)) (step_at c.args.starts.now c.args.values.now s) (flat c.args.starts.now s)) none,
     )
 
 pub loop-index-preserved : goal.loop-index-preserved
